@@ -38,7 +38,7 @@ fn main(rt: HostRuntime) -> ExitCode {
     end(&rt, &no_reply)
 }
 
-// Says why there is no answer, and gives the status of that. A reader who wants no more is told nothing.
+// Says why there is no answer, and gives the status of that. If a reader wants no more, nothing is said.
 fn end<R: AllocGlobal + Files + Print + Eprint>(rt: &R, no_reply: &NoReply) -> ExitCode {
     let words = match &no_reply.why {
         Unanswered::Closed => return ExitCode::from(no_reply.status),

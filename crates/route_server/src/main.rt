@@ -1,7 +1,7 @@
 //! A BGP-4 route server that replays recorded sessions: which routes does each client get?
 //!
-//! The program reads the configuration of an exchange and the recorded session of each peer, and writes a
-//! dump of each client's table and a report.
+//! The program reads the configuration of an exchange and the recorded session of each peer. It writes a dump of
+//! each client's table and a report.
 //!
 //! Supported standards: RFC 4271, RFC 6793, RFC 1997, RFC 7606, RFC 7947, RFC 6396.
 #![tactic(auto)]
@@ -44,7 +44,7 @@ fn main(rt: HostRuntime) -> ExitCode {
     }
 }
 
-// Standard error, where it is a terminal.
+// Standard error, if it is a terminal.
 fn terminal(stderr: Stderr) -> Option<Stderr> {
     if stderr.is_terminal() {
         Some(stderr)

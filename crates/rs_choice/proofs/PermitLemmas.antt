@@ -19,7 +19,7 @@ pub is_permitted-known : (plan : Plan) (client number : ℕ) (attributes : PathA
     is_permitted plan client number attributes ≡ (not (client == number) && is_permitted_from plan.local one other attributes)
 is_permitted-known plan client number attributes one other at_one at_other = rw (at_one, at_other) refl
 
--- where no value has the high half 0, none is that of (0, low)
+-- if no value has the high half 0, none is that of (0, low)
 no_value_of_0 : (value low : ℕ) → low < 65536 → (value / 65536 == 0) ≡ false → (value == 0 * 65536 + low) ≡ false
 no_value_of_0 value low small other = grind (arith, nat_tests)
 

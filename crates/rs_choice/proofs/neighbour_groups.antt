@@ -1,4 +1,4 @@
--- The pass by neighbour groups: how they are held, what each step keeps of them, and the choice that they give.
+-- The pass by neighbour groups: how groups are stored, what each step keeps of them, and the choice that they give.
 pub mod GroupParts
 pub mod ChainLemmas
 pub mod GroupLists

@@ -1,11 +1,12 @@
--- What decisions ask of a route before they look at the others (RFC 4271, section 9.1.2; RFC 7947, section 2.3).
+-- What decisions need of one route by itself, without the other routes (RFC 4271, section 9.1.2; RFC 7947, section
+-- 2.3).
 use Rattle.std.specs.Prelude.{◌≡◌, Bool, true, false}
 use Rattle.rs_types.specs.declared.values.Origin.{Origin}
 use Rattle.rs_types.specs.declared.values.Origin.TheVariants.{Igp, Egp, Incomplete}
 use Rattle.rs_choice.specs.declared.candidacy.Candidacy.{Candidacy}
 use Rattle.rs_choice.specs.declared.candidacy.Candidacy.TheVariants as is
 
--- eligible: it may be a candidate
+-- the route is eligible: it may be a candidate
 abbrev pub is_candidate : Candidacy → Bool
 is_candidate is.Ineligible = false
 is_candidate is.PlainRestrictedIgp = true
@@ -21,7 +22,7 @@ is_candidate is.OpenIgp = true
 is_candidate is.OpenEgp = true
 is_candidate is.OpenIncomplete = true
 
--- eligible, and permitted to every client but its sender
+-- the route is eligible, and every client but its sender may get it
 abbrev pub is_open_candidate : Candidacy → Bool
 is_open_candidate is.Ineligible = false
 is_open_candidate is.PlainRestrictedIgp = false
@@ -37,7 +38,7 @@ is_open_candidate is.OpenIgp = true
 is_open_candidate is.OpenEgp = true
 is_open_candidate is.OpenIncomplete = true
 
--- eligible, and its neighbour AS is its sender's AS, its MED 0 or missing
+-- the route is eligible, its neighbour AS is its sender's AS, and its MED is 0 or missing
 abbrev pub is_plain_candidate : Candidacy → Bool
 is_plain_candidate is.Ineligible = false
 is_plain_candidate is.PlainRestrictedIgp = true
@@ -69,7 +70,8 @@ origin_of_candidacy is.OpenIgp = Igp
 origin_of_candidacy is.OpenEgp = Egp
 origin_of_candidacy is.OpenIncomplete = Incomplete
 
--- that of an eligible route with an origin, permitted to every client but its sender or not, plain or not
+-- An eligible route of this origin has this candidacy. It says whether every client but the sender may get the
+-- route, and whether the route is plain.
 pub record CandidacyOf (unrestricted : Bool) (origin : Origin) (plain : Bool) (candidacy : Candidacy) : Type 0 where
   pub eligible : is_candidate candidacy ≡ true
   pub open_agrees : is_open_candidate candidacy ≡ unrestricted

@@ -4,7 +4,7 @@ use Rattle.std.specs.Prelude.{◌≡◌, ◌<◌, ◌⊎◌}
 use Rattle.rs_choice.specs.declared.candidate.Standing.{Standing}
 use Rattle.rs_types.specs.Spelling.{origin_code}
 
--- the first relation holds, or else both are equal by it and the second holds
+-- the first relation is true, or both are equal by it and the second relation is true
 abbrev pub FirstOrSecond : {M : Type 0} → (M → M → Type 0) → (M → M → Type 0) → (M → M → Type 0) → M → M → Type 0
 FirstOrSecond First Equal Second one other = First one other ⊎ (Equal one other × Second one other)
 
@@ -17,7 +17,7 @@ IsAsPreferred one other = one.preference ≡ other.preference
 abbrev pub IsShorter : Standing → Standing → Type 0
 IsShorter one other = one.path_length < other.path_length
 
--- by preference, then path length
+-- one is before the other by preference, then by path length
 abbrev pub IsPreferredOrShorter : Standing → Standing → Type 0
 IsPreferredOrShorter = FirstOrSecond IsPreferred IsAsPreferred IsShorter
 
@@ -27,11 +27,11 @@ IsAsLong one other = (one.preference ≡ other.preference) × (one.path_length �
 abbrev pub HasLowerOrigin : Standing → Standing → Type 0
 HasLowerOrigin one other = origin_code one.origin < origin_code other.origin
 
--- by preference, path length and origin
+-- one is before the other by preference, path length and origin
 abbrev pub IsAhead : Standing → Standing → Type 0
 IsAhead = FirstOrSecond IsPreferredOrShorter IsAsLong HasLowerOrigin
 
--- equal by these three
+-- both are equal in preference, path length and origin
 abbrev pub IsLevel : Standing → Standing → Type 0
 IsLevel one other =
     (one.preference ≡ other.preference) × (one.path_length ≡ other.path_length)
@@ -40,7 +40,8 @@ IsLevel one other =
 abbrev pub HasLowerMed : Standing → Standing → Type 0
 HasLowerMed one other = (one.neighbour ≡ other.neighbour) × (one.med < other.med)
 
--- by the first four steps: MED is compared within one neighbour AS, and among equals by the first three alone
+-- One is before the other by the first four steps. Candidates that are equal in the first three steps are compared
+-- by MED, within one neighbour AS.
 abbrev pub IsAheadByMed : Standing → Standing → Type 0
 IsAheadByMed = FirstOrSecond IsAhead IsLevel HasLowerMed
 
@@ -53,17 +54,17 @@ HasSameId one other = one.id ≡ other.id
 abbrev pub HasLowerAddress : Standing → Standing → Type 0
 HasLowerAddress one other = one.address < other.address
 
--- by identifier, then address
+-- one is before the other by identifier, then by address
 abbrev pub Precedes : Standing → Standing → Type 0
 Precedes = FirstOrSecond HasLowerId HasSameId HasLowerAddress
 
 abbrev pub HasSameMed : Standing → Standing → Type 0
 HasSameMed one other = (one.neighbour ≡ other.neighbour) × (one.med ≡ other.med)
 
--- by MED, identifier and address, within one neighbour AS
+-- one is before the other by MED, identifier and address, within one neighbour AS
 abbrev pub OutdoesByMed : Standing → Standing → Type 0
 OutdoesByMed = FirstOrSecond HasLowerMed HasSameMed Precedes
 
--- by all six steps: candidates of different neighbour ASes are told apart by the first three alone
+-- One is before the other by all six steps. Of different neighbour ASes, only the first three steps count.
 abbrev pub Outdoes : Standing → Standing → Type 0
 Outdoes = FirstOrSecond IsAhead IsLevel OutdoesByMed

@@ -1,4 +1,4 @@
--- What takes part in a decision, by its fields.
+-- The routes that take part in a decision, by their fields.
 use Rattle.std.specs.Prelude.{◌<◌, ℕ, List, length, map, slice_get}
 use Rattle.std.specs.List.{All, filter_map}
 use Rattle.rs_choice.specs.declared.candidate.Standing.{Standing}
@@ -9,18 +9,19 @@ use Rattle.rs_choice.specs.Decision.{standing_of_candidate, standing_of}
 use Rattle.rs_choice.specs.Held.{sent_of_held, AreEligible, IsJudged}
 use Rattle.rs_choice.specs.Plan.{Plan}
 
--- the standings of the candidates of a list, which peers of the plan have sent
+-- the standings of the candidates in a list
 abbrev pub listed_view : listed.Inside → List Standing
 listed_view fields = map (standing_of_candidate fields.plan.now) fields.candidates.now
 
 abbrev pub AreKnown : listed.Inside → Type 0
 AreKnown fields = All (λ candidate. candidate.peer < length fields.plan.now.peers) fields.candidates.now
 
--- the routes that stand at some places of a list
+-- the routes at some places of a list
 abbrev pub chosen_of : List HeldRoute → List ℕ → List HeldRoute
 chosen_of held places = filter_map (slice_get held) places
 
--- their standings; all are places of the list, of whose routes what is held is true, and of eligible ones
+-- The standing of a stored route; below, the standings of routes at some places of a list. Each place is in the
+-- list, its route is eligible, and what is stored of the route is true.
 abbrev pub standing_of_held : Plan → HeldRoute → Standing
 standing_of_held plan held = standing_of plan (sent_of_held held)
 

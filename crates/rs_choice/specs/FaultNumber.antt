@@ -4,7 +4,7 @@ use Rattle.rs_choice.specs.declared.fault.PlanFault.{PlanFault}
 use Rattle.rs_choice.specs.declared.fault.PlanFault.TheVariants.{NoPeer, TooManyPeers, InvalidName, RepeatedName}
 use Rattle.rs_choice.specs.declared.fault.PlanFault.TheVariants.{RepeatedAddress, ZeroAs, UnknownName, Memory}
 
--- 1 to 8, in the order of testing
+-- the number of a fault: 1 to 8, in the order in which a plan is tested
 abbrev pub number_of_fault : PlanFault → ℕ
 number_of_fault NoPeer = 1
 number_of_fault TooManyPeers = 2

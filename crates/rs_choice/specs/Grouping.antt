@@ -1,4 +1,4 @@
--- What the pass by neighbour groups keeps of the entrants that it has seen.
+-- What is known of the entrants that the pass over neighbour groups has seen.
 use Rattle.std.specs.Prelude.{◌≡◌, ◌≢◌, ◌<◌, ◌≤◌, ◌↔◌, ℕ, ◌⊎◌, IsTrue, List, length, map, Option, None, Some}
 use Rattle.std.specs.Prelude.{slice_get, slice_index_or}
 use Rattle.rs_choice.specs.declared.candidate.Standing.{Standing}
@@ -11,17 +11,17 @@ use Rattle.rs_choice.specs.Comparison.{IsAhead, IsLevel, HasLowerMed, Precedes}
 abbrev pub standing_in : List Standing → ℕ → Standing
 standing_in standings place = slice_index_or standings place no_standing
 
--- by identifier, address and place
+-- one is before the other by identifier, then address, then place
 abbrev pub GoesBefore : Standing → ℕ → Standing → ℕ → Type 0
 GoesBefore one place other other_place =
     Precedes one other ⊎ ((one.id ≡ other.id) × (one.address ≡ other.address) × (place < other_place))
 
--- by MED, identifier and address, within one neighbour AS
+-- one is before the other by MED, then identifier, then address, within one neighbour AS
 abbrev pub BeatsInGroup : Standing → Standing → Type 0
 BeatsInGroup one other = (one.med < other.med) ⊎ ((one.med ≡ other.med) × Precedes one other)
 
--- the entrant at one place stands for that at another: it is ahead of it, or level with it, from the same
--- neighbour AS, and not beaten by it there
+-- One entrant stands for another. It is before the other in the first three steps. Or it is equal there, has the
+-- same neighbour AS, and the other does not beat it within this AS.
 abbrev pub StandsFor : Standing → ℕ → Standing → ℕ → Type 0
 StandsFor one place other other_place =
     IsAhead one other
@@ -30,7 +30,8 @@ StandsFor one place other other_place =
     ⊎ ((one.med ≡ other.med)
     × (Precedes one other ⊎ ((one.id ≡ other.id) × (one.address ≡ other.address) × (place ≤ other_place))))))
 
--- of the first n places, some stand for all: none of the n is ahead of them, and each has a neighbour AS of its own
+-- Of the first n entrants, some stand for all. No entrant is before them in the first three steps, and each has a
+-- neighbour AS of its own.
 pub record IsGrouping (standing : ℕ → Standing) (n : ℕ) (groups : List ℕ) : Type 0 where
   pub few : length groups ≤ n
   pub within : (group place : ℕ) → slice_get groups group ≡ Some place → place < n
@@ -46,8 +47,8 @@ pub record IsGrouping (standing : ℕ → Standing) (n : ℕ) (groups : List ℕ
 abbrev pub places_of : List Group → List ℕ
 places_of groups = map (λ group. group.place) groups
 
--- the groups of the first n: some stand for all, each is known by its neighbour AS, and keeps out whom a
--- higher MED removes
+-- The groups of the first n entrants: for each group one entrant stands for all others. Each group is known by its
+-- neighbour AS. A group is marked if its entrant removes another one by MED.
 pub record AreGroups (standing : ℕ → Standing) (n : ℕ) (groups : List Group) : Type 0 where
   pub grouping : IsGrouping standing n (places_of groups)
   pub neighbours : (i : ℕ) (group : Group) → slice_get groups i ≡ Some group
@@ -56,38 +57,40 @@ pub record AreGroups (standing : ℕ → Standing) (n : ℕ) (groups : List Grou
       → IsLevel (standing k) (standing group.place) →
       HasLowerMed (standing group.place) (standing k) → IsTrue group.keeps_out
 
--- the leader is level with all that stand for groups, and one of them; there is none where there is no group
+-- The leader is one of the entrants that stand for groups, and equal to all of them in the first three steps. None:
+-- there are no groups.
 abbrev pub LeadsAll : (ℕ → Standing) → List Group → Option Standing → Type 0
 LeadsAll standing groups None = length groups ≡ 0
 LeadsAll standing groups (Some leader) =
     (0 < length groups)
     × ((i : ℕ) (group : Group) → slice_get groups i ≡ Some group → IsLevel leader (standing group.place))
 
--- a place is level with one of the groups
+-- the entrant at a place is equal to one of the groups in the first three steps
 abbrev pub IsLevelWithSome : (ℕ → Standing) → ℕ → List ℕ → Type 0
 IsLevelWithSome standing place groups =
     (group : ℕ) × (held : ℕ) × (slice_get groups group ≡ Some held) × IsLevel (standing place) (standing held)
 
--- the group of a neighbour AS; none where no group is of that AS
+-- the group of a neighbour AS; None if no group has this AS
 abbrev pub IsNeighboursGroup : List Group → ℕ → Option ℕ → Type 0
 IsNeighboursGroup groups neighbour None =
     (i : ℕ) (group : Group) → slice_get groups i ≡ Some group → group.neighbour ≡ neighbour → ⊥
 IsNeighboursGroup groups neighbour (Some i) =
     (group : Group) × (slice_get groups i ≡ Some group) × (group.neighbour ≡ neighbour)
 
--- a group with one more entrant of its neighbour AS: the one that stands for both, and whether one keeps out the other
+-- A group gets one more entrant of its neighbour AS. The new group has the entrant that stands for both. It is
+-- marked if the group was marked before, or if one of the two removes the other by MED.
 pub record IsJoined (group : Group) (held : Standing) (came : ℕ) (one : Standing) (joined : Group) : Type 0 where
   pub place : (BeatsInGroup one held × (joined.place ≡ came))
       ⊎ ((BeatsInGroup one held → ⊥) × (joined.place ≡ group.place))
   pub keeps_out : IsTrue joined.keeps_out ↔ (IsTrue group.keeps_out ⊎ (one.med ≢ held.med))
   pub neighbour : joined.neighbour ≡ group.neighbour
 
--- one goes before the first, where there is one
+-- the entrant is before the first one; true if there is no first one
 abbrev pub GoesBeforeSome : Placed → Option Placed → Type 0
 GoesBeforeSome one None = Unit {0}
 GoesBeforeSome one (Some first) = GoesBefore one.standing one.place first.standing first.place
 
--- of the first n groups, the first goes before all others; none of no groups
+-- of the first n groups, this is the entrant before all others; None if there are no groups
 abbrev pub IsFirstOf : (ℕ → Standing) → List ℕ → ℕ → Option Placed → Type 0
 IsFirstOf standing groups n None = n ≡ 0
 IsFirstOf standing groups n (Some first) =

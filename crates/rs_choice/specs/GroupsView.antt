@@ -10,7 +10,7 @@ use Rattle.rs_choice.specs.declared.plan.TheConstants.{MAX_PEERS}
 abbrev pub mark_of : Group → Mark
 mark_of group = record { place = group.place; keeps_out = group.keeps_out }
 
--- groups of their parts
+-- the groups that have these parts
 abbrev pub joined_parts : List Mark → List ℕ → List Group
 joined_parts [] neighbours = []
 joined_parts (mark ∷ marks) [] = []
@@ -20,18 +20,18 @@ joined_parts (mark ∷ marks) (neighbour ∷ neighbours) =
 abbrev pub groups_view : Inside → List Group
 groups_view fields = take fields.len (joined_parts fields.marks fields.neighbours)
 
--- the neighbour ASes that are equal in their low bits have one chain
+-- neighbour ASes that are equal in their low bits share a chain
 abbrev pub chain_of : ℕ → ℕ
 chain_of neighbour = neighbour % CHAINS
 
--- where any of the first groups is in a chain, this is the last of them
+-- this is the last of the first groups in a chain; any number is if the chain has none of them
 abbrev pub IsLastOf : List ℕ → ℕ → ℕ → ℕ → Type 0
 IsLastOf neighbours n chain last =
     (i : ℕ) → i < n → chain_of (slice_index neighbours i) ≡ chain
     → (i ≤ last) × (last < n) × (chain_of (slice_index neighbours last) ≡ chain)
 
--- there is a place for each peer; each chain begins with its last group, and goes from each group to the last
--- one before it
+-- There is a place for each peer. Each chain begins with its last group, and leads from each group to the one before
+-- it.
 pub record AreFull (fields : Inside) : Type 0 where
   pub few : fields.len ≤ MAX_PEERS
   pub marks : length fields.marks ≡ MAX_PEERS

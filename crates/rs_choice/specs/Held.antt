@@ -1,4 +1,4 @@
--- Routes as they are held for decisions.
+-- Routes as they are stored for decisions.
 use Rattle.std.specs.Prelude.{◌≡◌, ◌≢◌, ◌<◌, ◌↔◌, ℕ, IfSome, IsTrue, List, length, slice_get, slice_index_or}
 use Rattle.std.specs.Prelude.{unwrap_or, Some}
 use Rattle.std.specs.List.{All}
@@ -13,7 +13,7 @@ use Rattle.rs_choice.specs.Eligibility.{is_eligible}
 use Rattle.rs_choice.specs.Plan.{Peer, Plan}
 use Rattle.rs_choice.specs.Policy.{is_permitted}
 
--- a held route without what decisions ask of it
+-- a stored route without the values that were computed for decisions
 abbrev pub sent_of_held : HeldRoute → SentRoute
 sent_of_held held = record { peer = held.peer; time = held.time; attributes = held.attributes.value }
 
@@ -28,22 +28,22 @@ IsPlain plan peer attributes =
     IfSome (slice_get plan.peers peer)
     (λ sender. (neighbour_of attributes.path sender.asn ≡ sender.asn) × (unwrap_or attributes.med 0 ≡ 0))
 
--- routes come in strictly ascending order of the numbers of their peers
+-- the routes are in strictly ascending order of the numbers of their peers
 abbrev pub AscendByPeer : List HeldRoute → Type 0
 AscendByPeer held =
     (i j : ℕ) (one : HeldRoute) → i < j → j < length held
     → (slice_index_or held i one).peer < (slice_index_or held j one).peer
 
--- the route of a peer stands at a place
+-- the route of a peer is at this place
 abbrev pub IsAt : List HeldRoute → ℕ → ℕ → Type 0
 IsAt held place peer = (one : HeldRoute) × (slice_get held place ≡ Some one) × (one.peer ≡ peer)
 
--- all are eligible
+-- all routes are eligible
 abbrev pub AreEligible : Plan → List SentRoute → Type 0
 AreEligible plan routes = All (λ sent. IsTrue (is_eligible plan sent.peer sent.attributes)) routes
 
--- what the decision process asks of a held route, by what is held of it and by the plan: neighbour AS and MED
--- by its attributes
+-- What the decision process compares of a stored route. Preference, identifier and address are the sender's. Path
+-- length and origin are stored with the route; neighbour AS and MED are read from its attributes.
 abbrev pub standing_with : Peer → HeldRoute → Standing
 standing_with sender held = record {
   preference = sender.preference;
@@ -59,11 +59,11 @@ abbrev pub held_standing : Plan → HeldRoute → Standing
 held_standing plan held =
     option_map_or (λ sender. standing_with sender held) (slice_get plan.peers held.peer) no_standing
 
--- a standing without neighbour AS and MED, for which 0 stands: all steps but MED ask no more
+-- a standing with 0 for neighbour AS and MED; all steps but MED give the same result
 abbrev pub without_med : Standing → Standing
 without_med standing = record standing { neighbour = 0; med = 0 }
 
--- what is held of a route is true of it under a plan, and where it is eligible a decision needs no more
+-- what is stored of a route is true under a plan; of an eligible route it is enough for a decision
 pub record IsJudged (plan : Plan) (held : HeldRoute) : Type 0 where
   pub known : held.peer < length plan.peers
   pub eligible : is_candidate held.candidacy ≡ is_eligible plan held.peer held.attributes.value

@@ -19,7 +19,7 @@ ChoiceIsMember =
     (plan : Plan) (set : List SentRoute)
     → MatchOption (choice (standing_of plan) set) (set ≡ []) (λ chosen. Contains set chosen)
 
--- at each step the choice is in the set that reached the step, and no member of that set beats it
+-- at each step, the choice is among the routes left so far, and none of these beats it
 abbrev pub ChoiceIsUnbeaten : Type 0
 ChoiceIsUnbeaten =
     (plan : Plan) (set : List SentRoute) (chosen : SentRoute) → choice (standing_of plan) set ≡ Some chosen →
@@ -32,19 +32,19 @@ ChoiceIsUnbeaten =
 abbrev pub SameMembers : List SentRoute → List SentRoute → Type 0
 SameMembers some others = (route : SentRoute) → Contains some route ↔ Contains others route
 
--- routes whose senders have the same address are the same
+-- two routes of the list are the same if their senders have the same address
 abbrev pub HaveOwnAddresses : Plan → List SentRoute → Type 0
 HaveOwnAddresses plan set =
     (one other : SentRoute) → Contains set one → Contains set other →
     (standing_of plan one).address ≡ (standing_of plan other).address → one ≡ other
 
--- where the senders' addresses differ, the choice is the same in whatever order the candidates stand, and however often
+-- if the senders' addresses differ, the choice depends neither on the order of the candidates nor on repetitions
 abbrev pub ChoiceIgnoresOrder : Type 0
 ChoiceIgnoresOrder =
     (plan : Plan) (some others : List SentRoute) → SameMembers some others → HaveOwnAddresses plan some →
     choice (standing_of plan) some ≡ choice (standing_of plan) others
 
--- whom the step by MED removes, another one from the same neighbour AS with a lower MED removes
+-- a route that the step by MED removes has a rival from the same neighbour AS with a lower MED
 abbrev pub MedDecidesWithinNeighbour : Type 0
 MedDecidesWithinNeighbour =
     (plan : Plan) (set : List SentRoute) (removed : SentRoute) → Contains set removed
@@ -53,7 +53,7 @@ MedDecidesWithinNeighbour =
     × ((standing_of plan other).neighbour ≡ (standing_of plan removed).neighbour)
     × ((standing_of plan other).med < (standing_of plan removed).med)
 
--- a client to which all routes of a set are permitted gets the choice among all of them
+-- if all routes of a set are permitted to a client, the client gets the choice among all of them
 abbrev pub OpenPolicySharesChoice : Type 0
 OpenPolicySharesChoice =
     (plan : Plan) (client : ℕ) (set : List SentRoute) →
@@ -61,12 +61,13 @@ OpenPolicySharesChoice =
     choice (standing_of plan) (filter (λ route. is_permitted plan client route.peer route.attributes) set)
     ≡ choice (standing_of plan) set
 
--- the members that reach the step by MED
+-- the routes that are left when the step by MED begins
 abbrev pub reaching_med : Plan → List SentRoute → List SentRoute
 reaching_med plan set = remaining (standing_of plan) (steps.Preference ∷ steps.PathLength ∷ steps.Origin ∷ []) set
 
--- some members go, and the choice isn't one of them; of those that reach the step by MED, each one that stays
--- and that it removes is removed by one that stays: the choice stays
+-- Members other than the choice are taken away from a set. The choice stays the same under one condition on the
+-- routes left when the step by MED begins. Each route that is not taken away and that MED removes is beaten by MED
+-- by some route that is not taken away.
 abbrev pub ChoiceStays : Type 0
 ChoiceStays =
     (plan : Plan) (set : List SentRoute) (stays : SentRoute → Bool) (chosen : SentRoute) →
@@ -77,30 +78,32 @@ ChoiceStays =
     × IsTrue (beats steps.Med (standing_of plan third) (standing_of plan one))) →
     choice (standing_of plan) (filter stays set) ≡ Some chosen
 
--- a candidate that the first three steps remove goes, wherever it stands: the choice stays
+-- taking away a candidate that one of the first three steps removes does not change the choice
 abbrev pub RemovedIsNoMatter : Type 0
 RemovedIsNoMatter =
     (plan : Plan) (before after : List SentRoute) (one : SentRoute) →
     (Contains (reaching_med plan (before ++ one ∷ after)) one → ⊥) →
     choice (standing_of plan) (before ++ one ∷ after) ≡ choice (standing_of plan) (before ++ after)
 
--- so it is for each one that another candidate is ahead of by preference, path length and origin
+-- taking away a candidate does not change the choice, if another candidate is before it in preference, path length
+-- and origin
 abbrev pub BehindIsNoMatter : Type 0
 BehindIsNoMatter =
     (plan : Plan) (before after : List SentRoute) (one other : SentRoute) →
     Contains (before ++ after) other → IsAhead (standing_of plan other) (standing_of plan one) →
     choice (standing_of plan) (before ++ one ∷ after) ≡ choice (standing_of plan) (before ++ after)
 
--- and for each one that another candidate outdoes: one that is level with it, of the same neighbour AS, goes
--- before it by MED or after it
+-- Taking away a candidate does not change the choice if another candidate outdoes it. The other one is before it in
+-- the first three steps. Or both are equal there and have the same neighbour AS, and the other one is before it by
+-- MED or a later step.
 abbrev pub OutdoneIsNoMatter : Type 0
 OutdoneIsNoMatter =
     (plan : Plan) (before after : List SentRoute) (one other : SentRoute) →
     Contains (before ++ after) other → Outdoes (standing_of plan other) (standing_of plan one) →
     choice (standing_of plan) (before ++ one ∷ after) ≡ choice (standing_of plan) (before ++ after)
 
--- a route that, beside others, isn't eligible, or isn't permitted to a client, or is outdone by one of the
--- others that the client may get
+-- The route makes no difference to the client, next to these other routes. It is not eligible, or it is not
+-- permitted to the client. Or another route that the client may get outdoes it.
 abbrev pub IsNoMatterTo : Plan → ℕ → List SentRoute → SentRoute → Type 0
 IsNoMatterTo plan client others one =
     IsFalse (is_eligible plan one.peer one.attributes)
@@ -109,14 +112,14 @@ IsNoMatterTo plan client others one =
     × IsTrue (is_sent_to plan client other)
     × Outdoes (standing_of plan other) (standing_of plan one))
 
--- a client gets the same with such a route and without it, wherever it stands
+-- a client gets the same route whether or not such a route is on the prefix, and wherever it is in the list
 abbrev pub OthersAreNoMatter : Type 0
 OthersAreNoMatter =
     (plan : Plan) (client : ℕ) (before after : List SentRoute) (one : SentRoute)
     → IsNoMatterTo plan client (before ++ after) one →
     best_peer_for plan client (before ++ one ∷ after) ≡ best_peer_for plan client (before ++ after)
 
--- a fault is that of a test that is true, and all tests before it are false; without one all tests are false
+-- The fault of a plan is that of the first test which finds one. If the plan has no fault, no test finds one.
 abbrev pub FaultIsFirst : Type 0
 FaultIsFirst =
     (tests : List Test) →
@@ -125,7 +128,7 @@ FaultIsFirst =
     (λ fault. (place : ℕ) × (slice_get tests place ≡ Some (true, fault))
     × ((k : ℕ) (test : Test) → k < place → slice_get tests k ≡ Some test → IsFalse test.0))
 
--- peers of a plan without a fault have addresses of their own
+-- the peers of a plan without fault have different addresses
 abbrev pub PeersHaveOwnAddresses : Type 0
 PeersHaveOwnAddresses =
     (local : Local) (peers : List Peer) → plan_fault local peers ≡ None →

@@ -7,7 +7,7 @@ pub mod Clients  -- what each client gets
 pub mod Comparison  -- two candidates by several steps at once
 pub mod Laws  -- what holds of all of these
 pub mod Naturality  -- what the choice does not look at
--- How the bodies decide:
+-- How the code decides:
 pub mod Candidacy  -- what is asked of a route alone
 pub mod Held  -- routes as they are held for decisions
 pub mod Entrants  -- what takes part in a decision

@@ -1,4 +1,4 @@
--- What holds of the choice whatever else its members carry: it looks at standings alone.
+-- Laws of the choice: it compares standings alone, and whatever else its members carry has no effect.
 use Rattle.std.specs.Prelude.{◌≡◌, ℕ, ◌+◌, Bool, true, false, cond, not, ◌||◌, refl, List, [], ◌∷◌, length, map}
 use Rattle.std.specs.Prelude.{filter, Option, None, Some, MatchOption, slice_get, unwrap_or}
 use Rattle.std.specs.List.{All, Contains, list_any, enumerate_from}
@@ -49,7 +49,7 @@ first_member-map : {A B : Type 0} (f : A → B) (xs : List A) → first_member (
 first_member-map f [] = refl
 first_member-map f (x ∷ xs) = refl
 
--- the choice among what a function makes of members is what it makes of the choice among them
+-- mapping the members and then choosing gives the same as choosing and then mapping the choice
 pub choice-map : {A B : Type 0} (f : A → B) (standing : B → Standing) (xs : List A) →
     choice standing (map f xs) ≡ option_map f (choice (λ x. standing (f x)) xs)
 unfolding choice
@@ -72,7 +72,7 @@ pub option_map-option_map : {A B C : Type 0} (f : A → B) (g : B → C) (x : Op
 option_map-option_map f g None = refl
 option_map-option_map f g (Some x) = refl
 
--- and the choice stands at the same place
+-- mapping the members leaves the choice at its place
 pub place_of_choice-map : {A B : Type 0} (f : A → B) (standing : B → Standing) (xs : List A) →
     place_of_choice standing (map f xs) ≡ place_of_choice (λ x. standing (f x)) xs
 unfolding place_of_choice
@@ -85,7 +85,7 @@ place_of_choice-map {A} {B} f standing xs =
     ∙ option_map-option_map renumber (λ (place, member). place)
     (choice (λ (place, member). standing (f member)) (enumerate_from 0 xs))
 
--- what holds of all members holds of what steps leave
+-- what is true of all members is true of what the steps leave
 remaining-All : {M : Type 0} (P : M → Type 0) (standing : M → Standing) (steps : List Step) (set : List M)
     → All P set → All P (remaining standing steps set)
 unfolding remaining unbeaten
@@ -98,7 +98,7 @@ first_member-All : {M : Type 0} (P : M → Type 0) (xs : List M) (x : M) → All
 first_member-All P [] x all e = absurd (subst (λ o. MatchOption o (Unit {0}) (λ _. ⊥)) e tt)
 first_member-All P (y ∷ ys) x all e = subst P (ap (λ o. unwrap_or o y) e) (all 0 y (zero-lt-suc (length ys)))
 
--- what holds of all members holds of the choice
+-- what is true of all members is true of the choice
 pub choice-All : {M : Type 0} (P : M → Type 0) (standing : M → Standing) (set : List M) (chosen : M) → All P set
     → choice standing set ≡ Some chosen → P chosen
 unfolding choice

@@ -12,7 +12,7 @@ use Rattle.rs_choice.specs.declared.fault.PlanFault.{PlanFault}
 use Rattle.rs_choice.specs.declared.fault.PlanFault.TheVariants.{NoPeer, TooManyPeers, InvalidName, RepeatedName}
 use Rattle.rs_choice.specs.declared.fault.PlanFault.TheVariants.{RepeatedAddress, ZeroAs, UnknownName, Memory}
 
--- a peer by its values: names are their octets
+-- a peer as a value; its names are octets
 pub record Peer : Type 0 where
   pub name : List ℕ
   pub asn : ℕ
@@ -21,7 +21,7 @@ pub record Peer : Type 0 where
   pub preference : ℕ
   pub refuse_from : List (List ℕ)
 
--- the server and its peers, numbered from 0 in their order
+-- the server and its peers; a peer's number is its place, from 0
 pub record Plan : Type 0 where
   pub local : Local
   pub peers : List Peer
@@ -36,24 +36,27 @@ peer_of spec = record {
   refuse_from = map (λ name. string_bytes name) spec.refuse_from.items;
 }
 
--- a letter, a digit or one of two marks
+-- an octet that a name may have: a letter, a digit or one of two marks
 abbrev pub is_name_octet : ℕ → Bool
 is_name_octet octet = is_ascii_alphanumeric octet || (octet == HYPHEN || octet == UNDERSCORE)
 
--- a name is not empty, not long, and of such octets alone
+-- a name is not empty, not too long, and has only such octets
 abbrev pub is_name : List ℕ → Bool
 is_name name = not (length name == 0) && (nat_le (length name) MAX_NAME_LEN && list_all is_name_octet name)
 
+-- whether some peer has this name
 abbrev pub has_name : List Peer → List ℕ → Bool
 has_name peers name = list_any (λ peer. bytes_eq peer.name name) peers
 
+-- whether each of these names is that of some peer
 abbrev pub has_names : List Peer → List (List ℕ) → Bool
 has_names peers names = list_all (λ name. has_name peers name) names
 
+-- whether some peer has this address
 abbrev pub has_address : List Peer → ℕ → Bool
 has_address peers address = list_any (λ peer. peer.address == address) peers
 
--- a test, and the fault of a plan where it is true
+-- a test of a plan, and the fault that the plan has if the test is true
 abbrev pub Test : Type 0
 Test = Bool × PlanFault
 
@@ -64,7 +67,7 @@ whole_tests local peers =
     ∷ (nat_lt MAX_PEERS (length peers), TooManyPeers)
     ∷ (local.asn == 0, ZeroAs None) ∷ []
 
--- the tests of one peer by itself and beside the peers before it
+-- the tests of one peer, by itself and against the peers before it
 abbrev pub peer_tests : List Peer → ℕ → Peer → List Test
 peer_tests earlier number peer =
     (not (is_name peer.name), InvalidName number)
@@ -72,14 +75,15 @@ peer_tests earlier number peer =
     ∷ (has_address earlier peer.address, RepeatedAddress number)
     ∷ (peer.asn == 0, ZeroAs (Some number)) ∷ []
 
--- the test of the names that a peer refuses routes from: each is the name of some peer
+-- the tests of the names in a peer's list of refused peers: each must be the name of some peer
 abbrev pub name_tests : List Peer → ℕ → Peer → List Test
 name_tests peers number peer = (not (has_names peers peer.refuse_from), UnknownName number) ∷ []
 
--- the same of one peer after another
+-- the tests of all peers, one peer after another
 abbrev pub peers_tests : List Peer → List Test
 peers_tests peers = flat_map (λ (number, peer). peer_tests (take number peers) number peer) (enumerate_from 0 peers)
 
+-- the tests of the lists of refused peers, one peer after another
 abbrev pub names_tests : List Peer → List Test
 names_tests peers = flat_map (λ (number, peer). name_tests peers number peer) (enumerate_from 0 peers)
 
@@ -87,10 +91,11 @@ names_tests peers = flat_map (λ (number, peer). name_tests peers number peer) (
 abbrev pub plan_tests : Local → List Peer → List Test
 plan_tests local peers = (whole_tests local peers ++ peers_tests peers) ++ names_tests peers
 
+-- the first fault of a plan
 abbrev pub plan_fault : Local → List Peer → Option PlanFault
 plan_fault local peers = first_fault (plan_tests local peers)
 
--- a plan is refused by its first fault, or else for want of memory alone
+-- a plan is refused for its first fault; a plan without fault is refused only if memory was refused
 abbrev pub Refuses : PlanFault → Option PlanFault → Type 0
 Refuses fault None = fault ≡ Memory
 Refuses fault (Some first) = fault ≡ first

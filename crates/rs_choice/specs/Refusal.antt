@@ -8,11 +8,11 @@ use Rattle.rs_choice.specs.Plan.{Peer}
 abbrev pub refuses : Peer → Peer → Bool
 refuses client sender = list_any (λ name. bytes_eq name sender.name) client.refuse_from
 
--- for each client, for each peer: whether the client refuses its routes
+-- for each client and each peer, whether the client refuses the peer's routes
 abbrev pub refusals_of : List Peer → List (List Bool)
 refusals_of peers = map (λ client. map (refuses client) peers) peers
 
--- the answer is whether the client of one number refuses the sender of another
+-- the answer says whether the client of one number refuses the sender of another
 abbrev pub IsRefusal : List Peer → ℕ → ℕ → Bool → Type 0
 IsRefusal peers client sender answer =
     (one other : Peer) → slice_get peers client ≡ Some one → slice_get peers sender ≡ Some other

@@ -1,4 +1,4 @@
--- What is shared of the decisions of all clients (RFC 7947, section 2.3.2.1).
+-- What the decisions of all clients share (RFC 7947, section 2.3.2.1).
 use Rattle.std.specs.Prelude.{◌≡◌, ◌<◌, ◌⊎◌, ℕ, Bool, IsTrue, List, length, map, filter, Option, None, Some, slice_get}
 use Rattle.std.specs.List.{All, Contains}
 use Rattle.std.specs.Option.{option_map}
@@ -12,7 +12,7 @@ use Rattle.rs_choice.specs.Entrants.{chosen_of}
 use Rattle.rs_choice.specs.Held.{sent_of_held}
 use Rattle.rs_choice.specs.Plan.{Plan}
 
--- all are places of a list of routes
+-- each number is a place in a list of routes
 abbrev pub ArePlaces : List HeldRoute → List ℕ → Type 0
 ArePlaces held places = All (λ place. place < length held) places
 
@@ -20,8 +20,8 @@ ArePlaces held places = All (λ place. place < length held) places
 abbrev pub sents_at : List HeldRoute → List ℕ → List SentRoute
 sents_at held places = map sent_of_held (chosen_of held places)
 
--- A group of one neighbour AS weighs in the choice if its best route is chosen, or if that route removes another one of
--- the group by MED.
+-- A group of one neighbour AS weighs in the choice if its best route is chosen. It also does if that route removes
+-- another one of the group by MED.
 abbrev pub IsFirst : Group → Option Placed → Type 0
 IsFirst group None = ⊥
 IsFirst group (Some first) = group.place ≡ first.place

@@ -1,4 +1,4 @@
-//! What decisions ask of a route before they look at the others, in one octet.
+//! What decisions need of one route by itself, in one octet.
 
 ghost use Rattle.std.specs.Prelude.{◌≡◌};
 ghost use Rattle.rs_choice.specs.Candidacy.{origin_of_candidacy, is_candidate, is_open_candidate, is_plain_candidate};
@@ -6,41 +6,42 @@ ghost use Rattle.rs_choice.specs.Candidacy.{CandidacyOf};
 
 use rs_types::Origin;
 
-/// Whether a route may be a candidate at all, whether it may be one of every client but its sender, its ORIGIN, and
-/// whether it is plain: its neighbour AS is its sender's AS, and its MED is 0 or missing. One octet holds it, where a
-/// flag for each would take four.
+/// Whether a route may be a candidate at all, whether every client but its sender may get it, and its ORIGIN. It
+/// also says whether the route is plain: its neighbour AS is its sender's AS, and its MED is 0 or missing. One octet
+/// has room for all this; a flag for each would take four.
 #[derive(Clone, Copy, Debug, PartialEq, Eq)]
 pub enum Candidacy {
     /// It isn't eligible (RFC 4271, sections 6.3 and 9.1.2): it is a candidate of no client.
     Ineligible,
     /// It isn't plain, and export policy (RFC 7947, section 2.3) refuses it to some client; its ORIGIN is IGP.
     RestrictedIgp,
-    /// The same; its ORIGIN is EGP.
+    /// Like `RestrictedIgp`, but its ORIGIN is EGP.
     RestrictedEgp,
-    /// The same; its ORIGIN is INCOMPLETE.
+    /// Like `RestrictedIgp`, but its ORIGIN is INCOMPLETE.
     RestrictedIncomplete,
     /// It isn't plain, and export policy permits it to every client but its sender; its ORIGIN is IGP.
     OpenIgp,
-    /// The same; its ORIGIN is EGP.
+    /// Like `OpenIgp`, but its ORIGIN is EGP.
     OpenEgp,
-    /// The same; its ORIGIN is INCOMPLETE.
+    /// Like `OpenIgp`, but its ORIGIN is INCOMPLETE.
     OpenIncomplete,
     /// It is plain, and export policy refuses it to some client; its ORIGIN is IGP.
     PlainRestrictedIgp,
-    /// The same; its ORIGIN is EGP.
+    /// Like `PlainRestrictedIgp`, but its ORIGIN is EGP.
     PlainRestrictedEgp,
-    /// The same; its ORIGIN is INCOMPLETE.
+    /// Like `PlainRestrictedIgp`, but its ORIGIN is INCOMPLETE.
     PlainRestrictedIncomplete,
     /// It is plain, and export policy permits it to every client but its sender; its ORIGIN is IGP.
     PlainOpenIgp,
-    /// The same; its ORIGIN is EGP.
+    /// Like `PlainOpenIgp`, but its ORIGIN is EGP.
     PlainOpenEgp,
-    /// The same; its ORIGIN is INCOMPLETE.
+    /// Like `PlainOpenIgp`, but its ORIGIN is INCOMPLETE.
     PlainOpenIncomplete,
 }
 
 impl Candidacy {
-    // That of an eligible route, which export policy may permit to every client but its sender, and which may be plain.
+    // The candidacy of an eligible route of this origin, which may be unrestricted (permitted to every client but
+    // its sender) and plain.
     pub(crate) fn of(unrestricted: bool, origin: Origin, plain: bool) -> Candidacy
         ensures { CandidacyOf unrestricted origin plain result }
     {

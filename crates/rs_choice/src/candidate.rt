@@ -1,4 +1,5 @@
-//! A candidate of the decision process, and what the process asks of it (RFC 4271, sections 9.1.1 and 9.1.2.2).
+//! A candidate of the decision process, and the values by which it is compared (RFC 4271, sections 9.1.1 and
+//! 9.1.2.2).
 
 ghost use Rattle.std.specs.Prelude.{◌≡◌, ◌<◌, ◌↔◌, IsTrue, length};
 ghost use Rattle.rs_choice.specs.Decision.{standing_of_candidate};
@@ -16,7 +17,7 @@ pub struct Candidate<'a> {
     pub attributes: &'a Attributes,
 }
 
-/// What the decision process asks of a candidate.
+/// The values by which the decision process compares a candidate.
 #[derive(Clone, Copy, Debug, PartialEq, Eq)]
 pub struct Standing {
     /// The configured preference of the sending peer: more is better.
@@ -27,7 +28,7 @@ pub struct Standing {
     pub origin: Origin,
     /// The neighbour AS.
     pub neighbour: u32,
-    /// MULTI_EXIT_DISC, 0 where it is missing.
+    /// MULTI_EXIT_DISC, 0 if it is missing.
     pub med: u32,
     /// The BGP Identifier of the sending peer, in host order: lower is better.
     pub id: u32,
@@ -55,7 +56,7 @@ impl Placed {
 }
 
 impl Exchange {
-    /// What the decision process asks of a candidate. It takes no memory.
+    /// The values by which the decision process compares a candidate. It takes no memory.
     pub fn standing(&self, candidate: &Candidate) -> Standing
         requires { candidate.now.peer < length self.now.peers }
         ensures { result ≡ standing_of_candidate self.now candidate.now }

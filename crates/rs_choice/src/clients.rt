@@ -36,8 +36,8 @@ pub(crate) struct Shared {
 }
 
 impl Exchange {
-    /// Decides for each client which of the routes on one prefix it gets. `bests` has for each client the number
-    /// of the peer whose route it gets, or the client's own number where it gets none.
+    /// Decides for each client which of the routes on one prefix it gets. `bests` receives for each client the
+    /// number of the peer whose route it gets. The number is the client's own if it gets none.
     ///
     /// A client gets the choice among the routes that are eligible and that export policy permits to it. No client
     /// gets a route of its own. The call takes no memory.
@@ -78,7 +78,7 @@ impl Exchange {
         Shared { peer, weighing }
     }
 
-    // The number of the peer whose route a client gets, or its own number where it gets none.
+    // The number of the peer whose route a client gets, or its own number if it gets none.
     fn choose_for(
         &self,
         held: &[HeldRoute],
@@ -101,7 +101,7 @@ impl Exchange {
         self.choose_alone(held, places, client, groups)
     }
 
-    // The same by a decision of its own.
+    // The number of the peer whose route a client gets, by a decision of its own.
     fn choose_alone(
         &self,
         held: &[HeldRoute],
@@ -161,8 +161,8 @@ impl Exchange {
         true
     }
 
-    // The places of a client's candidates, which are among the routes at some places, without those that one
-    // before them outdoes: of these it isn't asked whether they are permitted to the client.
+    // The places of a client's candidates among the routes at some places. A route that an earlier candidate outdoes
+    // may be left out. Such a route is not tested by export policy.
     fn contenders(&self, held: &[HeldRoute], places: &Places, client: usize) -> Places
         requires judged { All (IsJudged self.now) held.now }
         requires candidates { HoldCandidates self.now client held.now places.now }
@@ -181,8 +181,8 @@ impl Exchange {
         contenders
     }
 
-    // What the decision process asks of an eligible route, where it is permitted to a client and the last candidate
-    // doesn't outdo it.
+    // The standing of an eligible route, if the route is permitted to a client and the last candidate doesn't outdo
+    // it.
     fn contends(&self, client: usize, one: &HeldRoute, last: &Option<Standing>) -> Option<Standing>
         requires client_known { client < length self.now.peers }
         requires judged { IsJudged self.now one.now }
@@ -235,8 +235,8 @@ fn eligible(held: &[HeldRoute]) -> Places
     eligible
 }
 
-// The places of the routes on which a choice rests: the chosen one, and those that keep out another one of
-// their neighbour AS.
+// The places of the routes on which a choice rests: the chosen one, and those that remove another one of their
+// neighbour AS by MED.
 fn weighing(eligible: &Places, groups: &NeighbourGroups, first: &Option<Placed>) -> Places
     requires { All (λ group. group.place < length eligible.now) groups.now }
     ensures { AreWeighing eligible.now groups.now first.now result }
@@ -261,7 +261,7 @@ fn is_first(group: &Group, first: &Option<Placed>) -> bool
     }
 }
 
-// A peer's number, or the client's where there is none.
+// A peer's number, or the client's if there is none.
 fn number(peer: Option<u8>, client: usize) -> u8
     requires { client < MAX_PEERS }
     ensures { result ≡ peer_or_own peer client }

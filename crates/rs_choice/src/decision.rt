@@ -18,8 +18,8 @@ use crate::neighbour_groups::{Group, NeighbourGroups};
 use crate::plan::MAX_PEERS;
 
 impl Exchange {
-    /// The same as `choose`, in one pass by neighbour groups, of at most 256 candidates. It takes no memory.
-    /// `rs_survey` calls it for a summary; `choose_for_all` makes the same pass over the routes of a table.
+    /// The choice among at most 256 candidates, as `choose` gives it, but in one pass by neighbour groups. It takes
+    /// no memory. `rs_survey` calls it for a summary; `choose_for_all` makes such a pass over the routes of a table.
     pub fn choose_by_groups(&self, candidates: &[Candidate]) -> Option<usize>
         requires known { All (λ candidate. candidate.peer < length self.now.peers) candidates.now }
         requires bound { length candidates.now ≤ MAX_PEERS }
@@ -48,9 +48,9 @@ pub(crate) fn group_all<E: Entrants>(entrants: &E, groups: &mut NeighbourGroups)
     }
 }
 
-// Takes one more entrant into the groups: it begins them anew, joins them or is left out. The leader is one
-// that is level with all that stand for groups, and none where there is no group; so is the answer, of the
-// groups that come out.
+// Takes one more entrant into the groups: it begins them anew, joins them or is left out. The leader is equal to all
+// entrants that stand for groups, by the first three steps; None if there is no group. The answer is the leader of
+// the new groups.
 fn take_in<E: Entrants>(
     entrants: &E,
     groups: &mut NeighbourGroups,
@@ -81,7 +81,7 @@ fn take_in<E: Entrants>(
     leader
 }
 
-// Takes in an entrant that the first three steps leave beside those of the groups.
+// Takes an entrant into the groups that is equal to theirs by the first three steps.
 fn join<E: Entrants>(entrants: &E, groups: &mut NeighbourGroups, place: usize, standing: &Standing)
     requires bound { length (E.standings entrants.now) ≤ MAX_PEERS }
     requires within { place < length (E.standings entrants.now) }
@@ -140,7 +140,7 @@ fn beats_in_group(one: &Standing, held: &Standing) -> bool
     one.med < held.med || (one.med == held.med && one.precedes(held))
 }
 
-// Whether an entrant goes before the first, where there is one, by identifier, address and place.
+// Whether an entrant goes before the first, if there is one, by identifier, address and place.
 fn goes_before(one: &Placed, first: &Option<Placed>) -> bool
     ensures { IsTrue result ↔ GoesBeforeSome one.now first.now }
 {

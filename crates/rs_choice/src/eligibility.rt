@@ -16,7 +16,7 @@ impl Exchange {
     /// All of these must be so:
     /// - The server's AS isn't in its AS_PATH (RFC 4271, section 9.1.2).
     /// - Its NEXT_HOP isn't the server's address (section 6.3).
-    /// - Where a subnet is configured, its NEXT_HOP is the peer's address or inside the subnet (section 6.3).
+    /// - If a subnet is configured, its NEXT_HOP is the peer's address or inside the subnet (section 6.3).
     pub fn eligible(&self, peer: usize, attributes: &Attributes) -> bool
         requires { peer < length self.now.peers }
         ensures { result ≡ is_eligible self.now peer attributes.now }
@@ -29,7 +29,7 @@ impl Exchange {
     }
 }
 
-// Whether an address is on the exchange: the sender's own or inside the subnet, where one is configured.
+// Whether an address is on the exchange: the sender's own or inside the subnet, if one is configured.
 fn on_exchange(subnet: Option<Prefix>, sender_address: u32, address: u32) -> bool
     ensures { result ≡ is_on_exchange subnet sender_address address }
 {

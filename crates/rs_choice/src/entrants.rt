@@ -25,7 +25,7 @@ pub(crate) trait Entrants {
         requires { place < length (standings self.now) }
         ensures { result ≡ standing_in (standings self.now) place };
 
-    // Whether something is ahead of the one at a place by preference, path length and origin.
+    // Whether the leader is before the entrant at a place by preference, path length and origin.
     fn is_behind(&self, place: usize, leader: &Standing) -> bool
         requires { place < length (standings self.now) }
         ensures { IsTrue result ↔ IsAhead leader.now (standing_in (standings self.now) place) };
@@ -67,7 +67,7 @@ impl<'a> Entrants for Listed<'a> {
     }
 }
 
-// Those of the routes held on a prefix that stand at some places.
+// The routes at some places among those that are stored on a prefix.
 #[derive(Drop)]
 pub(crate) struct Chosen<'a> {
     pub(crate) plan: &'a Exchange,

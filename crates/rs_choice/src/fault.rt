@@ -58,7 +58,7 @@ impl PlanFault {
         }
     }
 
-    /// The number of the peer at fault, where the fault is one peer's.
+    /// The number of the peer at fault, if the fault is that of one peer.
     pub fn peer(&self) -> Option<usize>
         ensures { result ≡ peer_of_fault self.now }
     {

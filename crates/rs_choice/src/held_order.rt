@@ -1,4 +1,4 @@
-//! Where the route of a peer stands among the routes on a prefix, which are in ascending order of their peers.
+//! The place of a peer's route among the routes on a prefix, which are in ascending order of their peers.
 
 ghost use Rattle.std.specs.Prelude.{◌<◌, ◌≤◌, ◌↔◌, IsTrue, length};
 ghost use Rattle.std.specs.List.Sorted.{IsPartitionPoint};
@@ -6,15 +6,15 @@ ghost use Rattle.rs_choice.specs.Held.{AscendByPeer, IsAt};
 
 use crate::held_route::HeldRoute;
 
-// How many routes are looked at one by one: that is quicker than by halves, where each step waits for the last.
+// How many routes are looked at one by one: that is quicker than by halves, if each step waits for the last.
 const FEW: usize = 16;
 
-/// The place of the route of the peer of number `peer` among routes in ascending order of their peers. Where the peer
+/// The place of the route of the peer of number `peer` among routes in ascending order of their peers. If the peer
 /// has none, it is the place where its route would stand. All routes before that place are of lower numbers, and none
 /// from it on is.
 ///
 /// Of up to 16 routes all are looked at. Among more, the place that is the peer's number is looked at first. The route
-/// stands there where all peers of lower numbers have a route too. Else it is found by halves. It takes no memory.
+/// stands there if all peers of lower numbers have a route too. Else it is found by halves. It takes no memory.
 pub fn place_of_peer(held: &[HeldRoute], peer: usize) -> usize
     ensures within { result ≤ length held.now }
     ensures place { AscendByPeer held.now

@@ -39,7 +39,8 @@ pub struct HeldRoute {
 const _: () = prove!(size_of::<HeldRoute>() == 16);
 
 impl Exchange {
-    /// A route of the peer of number `peer`, announced at `time`, with what decisions ask of it. It takes no memory.
+    /// A route of the peer of number `peer`, announced at `time`, with the values that decisions need. It takes no
+    /// memory.
     pub fn hold(&self, peer: usize, time: u32, attributes: Arc<Attributes>) -> HeldRoute
         requires { peer < length self.now.peers }
         ensures judged { IsJudged self.now result }
@@ -60,7 +61,7 @@ impl Exchange {
         }
     }
 
-    // What decisions ask of a route of a peer before they look at the others.
+    // What decisions need of a peer's route by itself.
     fn candidacy(&self, peer: usize, attributes: &Attributes) -> Candidacy
         requires { peer < length self.now.peers }
         ensures eligible { is_candidate result ≡ is_eligible self.now peer attributes.now }
@@ -87,8 +88,8 @@ impl Exchange {
         attributes.neighbour(asn) == asn && attributes.compared_med() == 0
     }
 
-    // What the decision process asks of a held route. The pointer to attributes, which most often lie far away, is
-    // followed only for a route that isn't plain.
+    // The values by which the decision process compares a stored route. The pointer to attributes is followed only
+    // for a route that isn't plain, since attributes are most often far away in memory.
     pub(crate) fn held_standing(&self, held: &HeldRoute) -> Standing
         requires { IsJudged self.now held.now }
         ensures { result ≡ held_standing self.now held.now }
@@ -108,8 +109,8 @@ impl Exchange {
         }
     }
 
-    // What all steps but MED ask of a held route: 0 stands for neighbour AS and MED. It follows no pointer to
-    // attributes, which most often lie far away.
+    // The values that all steps but MED compare of a stored route; neighbour AS and MED are 0. No pointer to
+    // attributes is followed, since these are most often far away in memory.
     fn standing_without_med(&self, held: &HeldRoute) -> Standing
         requires { held.now.peer < length self.now.peers }
         ensures { result ≡ without_med (held_standing self.now held.now) }
@@ -126,7 +127,7 @@ impl Exchange {
         }
     }
 
-    // Whether something is ahead of a held route by preference, path length and origin.
+    // Whether the leader is before a stored route by preference, path length and origin.
     pub(crate) fn leaves_behind(&self, leader: &Standing, one: &HeldRoute) -> bool
         requires { one.now.peer < length self.now.peers }
         ensures { IsTrue result ↔ IsAhead leader.now (held_standing self.now one.now) }
@@ -134,9 +135,10 @@ impl Exchange {
         leader.is_ahead_of(&self.standing_without_med(one))
     }
 
-    // Whether something outdoes a held route: the six steps, one after another, remove the route and keep it.
-    // Between different neighbour ASes the first three alone say so, since a third route of its AS may remove
-    // it by MED. The pointer to attributes is followed only where the first three steps leave both.
+    // Whether a standing outdoes a stored route: by the six steps, one after another, it removes the route and is
+    // not removed itself. Between different neighbour ASes only the first three steps count. Later, a third route of
+    // the same AS may remove one of the two by MED. The pointer to attributes is followed only if the first three
+    // steps leave both.
     pub(crate) fn is_outdone_by(&self, one: &HeldRoute, best: &Standing) -> bool
         requires { IsJudged self.now one.now }
         ensures { IsTrue result ↔ Outdoes best.now (held_standing self.now one.now) }
@@ -146,7 +148,7 @@ impl Exchange {
             || (best.is_level_with(&front) && best.outdoes_by_med(&self.held_standing(one)))
     }
 
-    // Whether a client may get a held route.
+    // Whether a client may get a stored route.
     pub(crate) fn permits_held(&self, client: usize, held: &HeldRoute) -> bool
         requires client_known { client < length self.now.peers }
         requires judged { IsJudged self.now held.now }

@@ -12,7 +12,7 @@ pub fn the_choice_is_unbeaten()
     ensures unbeaten { ChoiceIsUnbeaten }
 {}
 
-/// Where the addresses of the sending peers differ, the choice is the same in whatever order the candidates stand.
+/// If the addresses of the sending peers differ, the choice is the same in whatever order the candidates stand.
 pub fn the_choice_ignores_order()
     ensures { ChoiceIgnoresOrder }
 {}

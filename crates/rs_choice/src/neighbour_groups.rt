@@ -1,7 +1,7 @@
-//! The entrants that stand for a neighbour AS each, in arrays: they take no memory.
+//! The entrants that each stand for a neighbour AS, in arrays, which take no memory.
 //!
-//! Each route of a decision looks for the group of its neighbour AS. So that it needn't look at all groups,
-//! those whose neighbour AS is equal in its low bits are in one chain, the latest first.
+//! Each route of a decision looks for the group of its neighbour AS. So that it need not look at all groups, they
+//! are in chains. Groups whose neighbour AS is equal in its low bits are in one chain, the latest first.
 
 ghost use Rattle.std.specs.Prelude.{◌≡◌, ◌<◌, ◌≤◌, [], ◌∷◌, ◌++◌, false, length, slice_get, slice_set, IfSome, Some};
 ghost use Rattle.rs_choice.specs.Grouping.{IsNeighboursGroup};
@@ -14,12 +14,12 @@ use std::marker::Model;
 /// How many chains there are, one for each value of the low six bits of an AS number.
 pub(crate) const CHAINS: usize = 64;
 
-/// The entrant that stands for those of its neighbour AS.
+/// The entrant that stands for all entrants of its neighbour AS.
 #[derive(Clone, Copy)]
 pub(crate) struct Group {
-    // Its place.
+    // The place of the entrant.
     pub(crate) place: u8,
-    // Whether it keeps out another one, which has a higher MED.
+    // Whether the entrant removes another one, which has a higher MED.
     pub(crate) keeps_out: bool,
     // The neighbour AS.
     pub(crate) neighbour: u32,
@@ -47,7 +47,7 @@ pub(crate) struct Mark {
 }
 
 impl Mark {
-    // That of a group.
+    // The neighbour AS of a group.
     fn of(group: &Group) -> Mark
         ensures { result ≡ mark_of group.now }
     {
@@ -64,9 +64,9 @@ impl Mark {
 pub(crate) struct NeighbourGroups {
     marks: [Mark; MAX_PEERS],
     neighbours: [u32; MAX_PEERS],
-    // For each chain the last group in it, and for each group the last one before it in its chain. Where there
-    // is none the number is what an earlier decision left, which is known by the neighbour AS that it leads to:
-    // so nothing is cleared between decisions.
+    // For each chain the last group in it, and for each group the one before it in its chain. If there is none, the
+    // number is a rest of an earlier decision. The neighbour AS at that number shows this, so nothing is cleared
+    // between decisions.
     latest: [u8; CHAINS],
     earlier: [u8; MAX_PEERS],
     len: usize,

@@ -22,7 +22,7 @@ pub struct Local {
     pub address: u32,
     /// Its BGP Identifier (RFC 4271, section 4.2).
     pub id: u32,
-    /// The subnet of the exchange, in which a NEXT_HOP must lie, where one is configured.
+    /// The subnet of the exchange, in which a NEXT_HOP must lie, if one is configured.
     pub subnet: Option<Prefix>,
 }
 

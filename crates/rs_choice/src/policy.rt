@@ -13,10 +13,15 @@ use rs_types::{Attributes, Communities};
 const HALF: u32 = 65536;
 
 impl Exchange {
-    /// Whether the peer of number `client` may get a route of the peer of number `peer`; no client gets a
-    /// route of its own. The first case that holds decides: the client refuses all routes of that peer; the
-    /// community (0, client's AS) refuses; (server's AS, client's AS) permits; (0, server's AS) refuses; else
-    /// the route is permitted. It takes no memory.
+    /// Whether the peer of number `client` may get a route of the peer of number `peer`. No client gets a route of
+    /// its own. It takes no memory.
+    ///
+    /// The first case that applies decides:
+    /// - The client refuses all routes of that peer.
+    /// - The community (0, client's AS) refuses the route.
+    /// - The community (server's AS, client's AS) permits the route.
+    /// - The community (0, server's AS) refuses the route.
+    /// - Otherwise the route is permitted.
     pub fn permits(&self, client: usize, peer: usize, attributes: &Attributes) -> bool
         requires client_known { client < length self.now.peers }
         requires peer_known { peer < length self.now.peers }
@@ -29,7 +34,7 @@ impl Exchange {
 
     // Whether every client but the peer of number `peer` may get a route of that peer. Only a community (0,
     // AS) refuses, and most routes have none: so the communities are looked through once, and for each client
-    // only where there is one.
+    // only if there is one.
     pub(crate) fn is_open(&self, peer: usize, attributes: &Attributes) -> bool
         requires { peer < length self.now.peers }
         ensures { IsTrue result ↔ IsOpen self.now peer attributes.now }
@@ -43,7 +48,7 @@ impl Exchange {
         true
     }
 
-    // Whether a client may get a route of another peer, where it is known whether the route has a community (0, AS).
+    // Whether a client may get a route of another peer, if it is known whether the route has a community (0, AS).
     fn permits_other(
         &self,
         client: usize,
@@ -75,7 +80,7 @@ fn permitted_by_communities(local_asn: u32, client_asn: u32, attributes: &Attrib
     }
 }
 
-// The same of communities that were received: they are looked through once.
+// Whether communities that were received permit a route to a client. They are looked through once.
 fn permitted_by_list(local_asn: u32, client_asn: u32, list: Communities<'_>) -> bool
     ensures { result ≡ permits_by_communities local_asn client_asn (Some (communities_of list.entry)) }
 {

@@ -13,9 +13,9 @@ use crate::exchange::Exchange;
 use crate::step::Step;
 
 impl Exchange {
-    /// The place of the choice among the candidates: of the one that the six steps of the decision process
-    /// leave. Each step looks at the whole set that the one before left. Where several candidates of one
-    /// peer are left it is the least place. It is None for an empty list. The call takes no memory.
+    /// The place of the choice among the candidates: the one that the six steps of the decision process leave. Each
+    /// step looks at the whole set that the step before left. If several candidates of one peer are left, it is the
+    /// first place. It is None for an empty list. The call takes no memory.
     ///
     /// The program itself doesn't call it, since it decides among the routes of its tables (`choose_for_all`).
     /// Callers with a list of candidates may.
@@ -47,7 +47,7 @@ impl Exchange {
         best
     }
 
-    // The standing of a candidate that no other is ahead of; None of an empty list.
+    // The standing of a candidate such that no other is before it by the first three steps; None for an empty list.
     fn leader(&self, candidates: &[Candidate]) -> Option<Standing>
         requires { All (λ candidate. candidate.peer < length self.now.peers) candidates.now }
         ensures { IsLeader self.now candidates.now (length candidates.now) result }
@@ -62,7 +62,7 @@ impl Exchange {
         leader
     }
 
-    // Whether no candidate that is level with one has a lower MED from the same neighbour AS.
+    // Whether no candidate that is equal by the first three steps has a lower MED from the same neighbour AS.
     fn has_least_med(&self, candidates: &[Candidate], one: &Standing) -> bool
         requires { All (λ candidate. candidate.peer < length self.now.peers) candidates.now }
         ensures { IsTrue result ↔ HasLeastMed self.now candidates.now one.now }
@@ -77,7 +77,7 @@ impl Exchange {
     }
 }
 
-// Whether a standing is ahead of the leader, where there is one.
+// Whether a standing is before the leader by the first three steps; true if there is no leader.
 fn leads(standing: &Standing, leader: &Option<Standing>) -> bool
     ensures { IsTrue result ↔ Leads standing.now leader.now }
 {
@@ -87,7 +87,7 @@ fn leads(standing: &Standing, leader: &Option<Standing>) -> bool
     }
 }
 
-// Whether a standing goes before the best by the last two steps, where there is one.
+// Whether a standing goes before the best by the last two steps, if there is one.
 fn goes_first(standing: &Standing, best: &Option<Placed>) -> bool
     ensures { IsTrue result ↔ GoesFirst standing.now best.now }
 {

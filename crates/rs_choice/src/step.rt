@@ -52,7 +52,7 @@ impl Standing {
                     || (self.path_length == other.path_length && Step::Origin.beats(self, other))))
     }
 
-    // Whether the first three steps remove neither.
+    // Whether the first three steps remove neither of two candidates.
     pub(crate) fn is_level_with(&self, other: &Standing) -> bool
         ensures { IsTrue result ↔ IsLevel self.now other.now }
     {

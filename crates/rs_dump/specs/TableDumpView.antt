@@ -6,7 +6,7 @@ use Rattle.rs_dump.specs.declared.under_way.TheConstants.{BUFFER_LEN}
 use Rattle.rs_dump.specs.Dump.{spelled_rows}
 use Rattle.rs_dump.specs.TableDump.{ToWrite}
 
--- what waits in the buffer, and then the rows that are not spelled
+-- the octets that wait in the buffer, and then those of the rows that are not spelled yet
 abbrev pub to_write : Inside → ToWrite
 to_write fields =
     record {
@@ -15,7 +15,7 @@ to_write fields =
       spelled = fields.spelled;
     }
 
--- there are Sequence Numbers for all rows, their peers have places, and there is room
+-- all rows have Sequence Numbers, their peers are in the peer table, and there is room for one more row
 pub record CanGoOn (fields : Inside) : Type 0 where
   pub numbered : fields.spelled + length fields.rows ≤ 4294967295
   pub peers_known : All (λ row. row.route.peer < 65536) fields.rows

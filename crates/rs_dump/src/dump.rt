@@ -13,12 +13,13 @@ use rs_records::DumpFault;
 use rs_table::Row;
 use std::alloc::Global;
 
-/// Writes the dump of a client's table to `out` and answers the number of rows: a PEER_INDEX_TABLE record of
-/// the plan's peers, then a RIB_IPV4_UNICAST record for each row, in the order given (RFC 6396, sections
-/// 4.3.1 and 4.3.2). `time`, in seconds since 1970, is the Timestamp of every record. It doesn't flush.
+/// Writes the dump of a client's table to `out` and answers the number of rows. First comes a PEER_INDEX_TABLE
+/// record of the plan's peers. Then comes a RIB_IPV4_UNICAST record for each row, in the order given (RFC 6396,
+/// sections 4.3.1 and 4.3.2). `time`, in seconds since 1970, is the Timestamp of every record. The call doesn't
+/// flush.
 ///
-/// `TooManyRows` comes exactly where there are more than 4,294,967,295 rows, and is tested first.
-/// `TooManyRows` and `Memory` leave `out` as it was; after `Write` a beginning of the dump is out.
+/// `TooManyRows` comes exactly if there are more than 4,294,967,295 rows, and is tested first. `TooManyRows` and
+/// `Memory` leave `out` as it was. After `Write` a beginning of the dump is written.
 pub fn write_dump<W: Write>(
     alloc: Global,
     out: &mut W,

@@ -1,7 +1,7 @@
-//! Dumps that are written beside each other: what is read of a prefix for one client is still at hand when its row is
+//! Dumps that are written at the same time: what is read of a prefix for one client is still at hand when its row is
 //! spelled for the next.
 //!
-//! Our choice: four dumps are written on one thread, some rows of each in turn. Where a thread is refused, the calling
+//! Our choice: four dumps are written on one thread, some rows of each in turn. If a thread is refused, the calling
 //! thread writes them.
 
 ghost use Rattle.std.specs.Prelude.{◌≡◌, ◌<◌, ℕ, length, slice_index_or};
@@ -25,9 +25,9 @@ pub struct Writing<'a, W> {
     pub failed: bool,
 }
 
-/// Writes dumps beside each other, each to its own writer, four of them on one thread. It flushes none.
+/// Writes several dumps at the same time, each to its own writer, four of them on one thread. It flushes none.
 ///
-/// Afterwards each is written whole, unless its writer failed, and then a beginning of it is out.
+/// Afterwards each dump is written whole, unless its writer failed; then a beginning of it is written.
 pub fn write_side_by_side<T: Threads + Sync, W: Write + Send>(
     rt: &T,
     writings: &mut [Writing<'_, W>],
@@ -61,8 +61,8 @@ fn write_in_turns<W: Write>(writings: &mut [Writing<'_, W>])
     write_rests(writings);
 }
 
-// How many turns are written of each dump, by how many rows there can be at most: all that the longest dump has but
-// maybe the last, which is written behind them, and maybe more, which find no row.
+// How many turns are written of each dump: at most as many as the longest dump has, perhaps without its last one.
+// The last one is written behind them. There may also be more turns, which find no row.
 fn most_turns<W>(writings: &[Writing<'_, W>]) -> usize {
     let mut most = 0;
     for writing in writings {

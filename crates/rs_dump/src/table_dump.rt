@@ -52,8 +52,8 @@ impl<'a> Model for TableDump<'a> {
 impl<'a> TableDump<'a> {
     /// Begins the dump that `write_dump` writes of the rows of a client's table. Nothing is written yet.
     ///
-    /// `TooManyRows` comes exactly where the table has more than 4,294,967,295 rows, and is tested first; `Memory`
-    /// where memory is refused. `Write` doesn't come.
+    /// `TooManyRows` comes exactly if the table has more than 4,294,967,295 rows, and is tested first. `Memory`
+    /// comes if memory is refused. `Write` doesn't come.
     pub fn begin(
         alloc: Global,
         tables: &'a Tables,
@@ -90,12 +90,12 @@ impl<'a> TableDump<'a> {
         self.spelled
     }
 
-    // How many whole turns there are at most, where that is known.
+    // How many whole turns there are at most, if that is known.
     pub(crate) fn most_turns(&self) -> usize {
         self.rows.size_hint().1.unwrap_or(0) / TURN_LEN
     }
 
-    // Spells the rows of a turn, and writes what waits where that is a piece. Answers whether there were any rows.
+    // Spells the rows of a turn, and writes what waits if that is a piece. Answers whether there were any rows.
     pub(crate) fn write_turn<W: Write>(&mut self, out: &mut W) -> Result<bool, Failed>
         requires failures { W.failures out.old < u64.MAX }
         ensures ok { OnOk result (IsUnderWay (W.taken out.old) (W.taken out.new) self.new.octets self.old.octets) }
@@ -154,7 +154,7 @@ fn take_rows<'a>(rows: &mut ClientRows<'a>, turn: &mut Vec<Row<'a>>) -> bool
     !turn.is_empty()
 }
 
-// The rows of a client's table, where a dump can number them all.
+// The rows of a client's table, if a dump can number them all.
 fn numbered_rows<'a>(tables: &'a Tables, client: usize) -> Option<ClientRows<'a>>
     ensures rows { IfSome result (λ rows. rows ≡ table_of tables.now client) }
     ensures known { IfSome result (λ rows. All (λ row. row.route.peer < length tables.now.plan.peers) rows) }
@@ -179,7 +179,7 @@ fn are_few(rows: &ClientRows<'_>) -> bool
     }
 }
 
-// How many rows there are; none where a dump can't number them all.
+// How many rows there are; none if a dump can't number them all.
 fn count_rows(rows: ClientRows<'_>) -> Option<u32>
     ensures some { IfSome result (λ count. count ≡ length rows.entry) }
     ensures none { IfNone result (u32.MAX < length rows.entry) }

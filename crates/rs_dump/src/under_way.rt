@@ -1,7 +1,7 @@
 //! A dump that is being written, record by record.
 //!
-//! Our choices: one buffer, taken before the first write, in which records are spelled; it is written in
-//! pieces of 64 KiB or more, and nothing is flushed.
+//! Our choices: records are spelled in one buffer, which is taken before the first write. It is written in pieces of
+//! 64 KiB or more, and nothing is flushed.
 
 ghost use Rattle.std.specs.Prelude.{◌≡◌, ◌+◌, ◌<◌, ◌≤◌, [], ◌++◌, All, length, map, IfOk, OnOk, OnErr};
 ghost use Rattle.std.specs.Prelude.{vec_capacity};
@@ -21,7 +21,7 @@ use std::alloc::{AllocError, Global};
 // How many octets wait, at least, before they are written: all pieces but the last have so many.
 const PIECE_LEN: usize = 65536;
 
-// How many octets the buffer holds: room for any record is left where fewer than a piece wait.
+// How many octets the buffer has room for: room for any record is left if fewer than a piece wait.
 pub(crate) const BUFFER_LEN: usize = 69640;
 
 // Takes the buffer and begins the dump of a client's table in it: with the record of the peers.
@@ -41,8 +41,8 @@ pub(crate) fn begin_dump(
     Ok(buffer)
 }
 
-// Adds the record of a row, whose place among the rows is its Sequence Number; what waits is written first,
-// where that is a piece.
+// Adds the record of a row, whose place among the rows is its Sequence Number. If a piece waits, the piece is
+// written first.
 fn add_row<W: Write>(
     out: &mut W,
     buffer: &mut Vec<u8>,
@@ -98,7 +98,7 @@ pub(crate) fn add_rows<W: Write>(
     Ok(())
 }
 
-// Makes room for a record: writes what waits, where that is a piece.
+// Makes room for a record: writes what waits, if that is a piece.
 fn make_room<W: Write>(out: &mut W, buffer: &mut Vec<u8>) -> Result<(), Failed>
     requires failures { W.failures out.old < u64.MAX }
     requires capacity { BUFFER_LEN ≤ vec_capacity buffer.old }

@@ -1,4 +1,4 @@
--- What is said last of a prefix agrees with the routes that are left.
+-- The last changes on a prefix agree with the routes that are left.
 use Rattle.std.proofs.Common.{◌≡◌, ◌∙◌, sym, ap, refl, ℕ, Bool, true, false, cond, List, [], ◌∷◌, ◌++◌, inl, inr}
 use Rattle.std.specs.Prelude.{Some, None}
 use Rattle.std.specs.List.{list_any}

@@ -7,7 +7,7 @@ use Rattle.rs_table.specs.Table.{best_of}
 use Rattle.rs_explain.specs.declared.explanation.Candidates.{Candidates}
 use Rattle.rs_explain.specs.Contenders.{contender_of, AreContenders}
 
--- these are all of them, and the one that the client gets
+-- these are all candidates, and the one that the client gets
 pub record AreCandidates (tables : TablesContent) (client : ℕ) (prefix : IpPrefix) (candidates : Candidates)
     : Type 0 where
   pub best : candidates.best ≡ option_map (contender_of tables.plan) (best_of tables client prefix)

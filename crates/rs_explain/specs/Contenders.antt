@@ -1,4 +1,4 @@
--- The candidates of a client for a prefix, by what the decision process asks of them (RFC 4271, sections
+-- The candidates of a client for a prefix, by the values that the decision process compares (RFC 4271, sections
 -- 9.1.1 and 9.1.2.2).
 use Rattle.std.specs.Prelude.{◌≡◌, ◌<◌, ℕ, List, length, map, Option, None, Some, ◌&&◌, if◌then◌else◌, slice_get}
 use Rattle.std.specs.List.{All, Contains}
@@ -12,7 +12,7 @@ use Rattle.rs_table.specs.Content.{TablesContent}
 use Rattle.rs_table.specs.Table.{route_from, candidates_of}
 use Rattle.rs_explain.specs.declared.contender.Contender.{Contender}
 
--- a route by its peer and what the decision process asks of it
+-- a route as its peer and the values that the decision process compares
 abbrev pub contender_of : Plan → SentRoute → Contender
 contender_of plan route = record { peer = route.peer; standing = standing_of plan route }
 
@@ -23,7 +23,7 @@ standing_in one = one.standing
 abbrev pub contenders_of : TablesContent → ℕ → IpPrefix → List Contender
 contenders_of tables client prefix = map (contender_of tables.plan) (candidates_of tables client prefix)
 
--- a peer's route on a prefix, where it is a candidate of a client
+-- a peer's route on a prefix, if it is a candidate of the client
 abbrev pub contender_if : Plan → ℕ → Option SentRoute → Option Contender
 contender_if plan client None = None
 contender_if plan client (Some route) =
@@ -33,12 +33,12 @@ contender_if plan client (Some route) =
 abbrev pub contender_from : TablesContent → ℕ → IpPrefix → ℕ → Option Contender
 contender_from tables client prefix peer = contender_if tables.plan client (route_from tables prefix peer)
 
--- its peer is one of the plan, and its address is that peer's
+-- the candidate is of a peer of the plan, and has this peer's address
 abbrev pub HasOwnAddress : Plan → Contender → Type 0
 HasOwnAddress plan one =
     (sender : Peer) × (slice_get plan.peers one.peer ≡ Some sender) × (one.standing.address ≡ sender.address)
 
--- these are the candidates of a client for a prefix, each of a peer of the plan, and each peer's that has one
+-- These are the candidates of a client for a prefix. Each is of a peer of the plan, and no candidate is missing.
 pub record AreContenders (tables : TablesContent) (client : ℕ) (prefix : IpPrefix) (all : List Contender) : Type 0 where
   pub value : all ≡ contenders_of tables client prefix
   pub addresses : All (HasOwnAddress tables.plan) all

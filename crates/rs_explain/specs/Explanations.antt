@@ -1,5 +1,5 @@
--- Why a client has a peer's route on a prefix, or not, with the reason: the first case that holds (RFC 4271,
--- section 9.1; RFC 7947, section 2.3).
+-- Why a client gets a peer's route on a prefix, or why not, with the reason. The first case that applies counts (RFC
+-- 4271, section 9.1; RFC 7947, section 2.3).
 use Rattle.std.specs.Prelude.{◌≡◌, ℕ, ◌==◌, true, false, not, if◌then◌else◌, List, map, filter, Option, None, Some}
 use Rattle.std.specs.Prelude.{MatchOption}
 use Rattle.std.specs.Option.{option_map, option_or}
@@ -18,7 +18,8 @@ use Rattle.rs_explain.specs.Contenders.{contender_of, contender_from, contenders
 use Rattle.rs_explain.specs.Reasons.{failed_condition, refusal_of}
 use Rattle.rs_explain.specs.Removals.{IsRemoval}
 
--- why a route is no candidate, where it isn't: the first condition that fails, or else the rule that refuses
+-- why a route is no candidate: the first condition of eligibility that it fails, or else the rule that refuses it;
+-- None if it is a candidate
 abbrev pub reason_of : Plan → ℕ → ℕ → Option SentRoute → Option Explanation
 reason_of plan client peer None = Some Absent
 reason_of plan client peer (Some route) =
@@ -29,11 +30,11 @@ abbrev pub reason_before_decision : TablesContent → ℕ → ℕ → IpPrefix �
 reason_before_decision tables client peer prefix =
     if client == peer then Some Own else reason_of tables.plan client peer (route_from tables prefix peer)
 
--- the peers of a client's candidates but one
+-- the peers of a client's candidates, without one peer
 abbrev pub other_peers : List Contender → ℕ → List ℕ
 other_peers contenders peer = map (λ one. one.peer) (filter (λ one. not (one.peer == peer)) contenders)
 
--- the client gets another peer's route, and this is how the decision process removes the peer's own
+-- the client gets another peer's route, and the decision process removes the peer's own route in this way
 pub record IsLoss (tables : TablesContent) (client peer : ℕ) (prefix : IpPrefix) (removal : Removal) : Type 0 where
   pub loser : Contender
   pub best : SentRoute
@@ -43,7 +44,7 @@ pub record IsLoss (tables : TablesContent) (client peer : ℕ) (prefix : IpPrefi
   pub steps : IsRemoval decision_steps (contenders_of tables client prefix)
       (contender_of tables.plan best) loser removal
 
--- what the decision process makes of a candidate: the client gets it, of all its candidates, or it is removed
+-- the decision about a candidate: the client gets it, or it is removed
 abbrev pub IsDecided : TablesContent → ℕ → ℕ → IpPrefix → Explanation → Type 0
 IsDecided tables client peer prefix Own = ⊥
 IsDecided tables client peer prefix Absent = ⊥
@@ -54,13 +55,13 @@ IsDecided tables client peer prefix (Best beaten) =
     × (beaten.items ≡ other_peers (contenders_of tables client prefix) peer)
 IsDecided tables client peer prefix (Lost removal) = IsLoss tables client peer prefix removal
 
--- the explanation: the reason why the peer's route is no candidate, or else what was decided
+-- the explanation: the reason why the peer's route is no candidate, or else the decision about it
 abbrev pub IsExplanation : TablesContent → ℕ → ℕ → IpPrefix → Explanation → Type 0
 IsExplanation tables client peer prefix explanation =
     MatchOption (reason_before_decision tables client peer prefix)
     (IsDecided tables client peer prefix explanation) (λ reason. explanation ≡ reason)
 
--- the answer that is explained
+-- the answer to which an explanation belongs
 abbrev pub answer_of : Explanation → Why
 answer_of Own = answers.Own
 answer_of Absent = answers.Absent

@@ -1,4 +1,4 @@
--- What a peer's changes say last of a prefix: why its route is left there or absent (RFC 4271, sections 3.1 and 9.1).
+-- The last changes of a peer on a prefix: why its route is left there or absent (RFC 4271, sections 3.1 and 9.1).
 use Rattle.std.specs.Prelude.{◌≡◌, ℕ, Bool, true, false, if◌then◌else◌, List, ◌∷◌, ◌++◌, Option, None, Some}
 use Rattle.std.specs.List.{list_any}
 use Rattle.std.specs.Option.{is_some}
@@ -21,8 +21,8 @@ body_announces prefix (Closed reason) = false
 abbrev pub announces : IpPrefix → Change → Bool
 announces prefix change = body_announces prefix change.body
 
--- by what a change takes a peer's route on a prefix away, if it does: a withdrawal of it, a loss of the
--- session, or a close but at the end of the file
+-- How a change removes a peer's route on a prefix, if it does: by a withdrawal, by a loss of the session, or by a
+-- close. A close at the end of the file does not remove it.
 abbrev pub body_ends_by : IpPrefix → ChangeBody → Option EndedBy
 body_ends_by prefix (Announced announced attributes) = None
 body_ends_by prefix (Withdrawn withdrawn) = if same_prefix prefix withdrawn then Some by.Withdrawal else None
@@ -35,12 +35,12 @@ ends_by prefix change = body_ends_by prefix change.body
 abbrev pub ends : IpPrefix → Change → Bool
 ends prefix change = is_some (ends_by prefix change)
 
--- a change takes the route away thus
+-- the change removes the route in this way
 pub record IsEnding (prefix : IpPrefix) (change : Change) (ending : Ending) : Type 0 where
   pub time : ending.time ≡ change.time
   pub by : ends_by prefix change ≡ Some ending.by
 
--- changes announce a prefix last at a time, and something holds of those after that
+-- the last announcement of the prefix is at this time, and the statement is true of the changes behind it
 pub record IsAnnouncedLast (prefix : IpPrefix) (changes : List Change) (time : ℕ)
     (Then : List Change → Type 0) : Type 0 where
   pub earlier : List Change
@@ -52,11 +52,11 @@ pub record IsAnnouncedLast (prefix : IpPrefix) (changes : List Change) (time : �
   pub last : list_any (announces prefix) later ≡ false
   pub after : Then later
 
--- no change of these takes the route away
+-- none of these changes removes the route
 abbrev pub KeepRoute : IpPrefix → List Change → Type 0
 KeepRoute prefix changes = list_any (ends prefix) changes ≡ false
 
--- the first change of these that takes the route away does it thus
+-- the first of these changes that removes the route does it in this way
 pub record EndRoute (prefix : IpPrefix) (ending : Ending) (changes : List Change) : Type 0 where
   pub before : List Change
   pub change : Change
@@ -65,8 +65,8 @@ pub record EndRoute (prefix : IpPrefix) (ending : Ending) (changes : List Change
   pub first : KeepRoute prefix before
   pub ends : IsEnding prefix change ending
 
--- what changes say last of a prefix: no change announces it; or the last announcement of it, and what took
--- the route away after it, if anything did
+-- What the last changes on a prefix are. Either no change announces the prefix. Or this is the last announcement,
+-- and this removed the route after it, if anything did.
 abbrev pub IsSaidLast : IpPrefix → List Change → LastSaid → Type 0
 IsSaidLast prefix changes said.NeverAnnounced = list_any (announces prefix) changes ≡ false
 IsSaidLast prefix changes (said.Announced time) = IsAnnouncedLast prefix changes time (KeepRoute prefix)

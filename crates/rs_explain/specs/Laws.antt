@@ -23,8 +23,8 @@ ExplanationAgrees =
     client < length tables.plan.peers → peer < length tables.plan.peers →
     IsExplanation tables client peer prefix explanation → answer_of explanation ≡ why_of tables client peer prefix
 
--- the peer that is named as the rival of a route has a route on the prefix that is a candidate of the client
--- too, and that beats it
+-- The peer that is named as the rival of a route has a route on the prefix. That route is a candidate of the client
+-- too, and beats the first one.
 abbrev pub RivalIsCandidate : Type 0
 RivalIsCandidate =
     (tables : TablesContent) (client peer : ℕ) (prefix : IpPrefix) (removal : Removal) →
@@ -33,20 +33,21 @@ RivalIsCandidate =
     × (contender_of tables.plan route ≡ removal.rival))
     × IsTrue (beats removal.step removal.rival.standing removal.loser.standing)
 
--- where a list doesn't close but at the end of its file, what it says is announced is left, and announced at that time
+-- If a list closes only at the end of its file, a route that is said to be announced last is left. It has the time
+-- of that announcement.
 abbrev pub AnnouncedIsLeft : Type 0
 AnnouncedIsLeft =
     (prefix : IpPrefix) (changes : List Change) (time : ℕ) → IsSaidLast prefix changes (said.Announced time)
     → list_any drops_routes changes ≡ false →
     (route : RouteLeft) × (route.time ≡ time) × Leaves changes prefix route
 
--- what a list says was never announced is not left
+-- a route that is said to be never announced is not left
 abbrev pub NeverAnnouncedIsNotLeft : Type 0
 NeverAnnouncedIsNotLeft =
     (prefix : IpPrefix) (changes : List Change) → IsSaidLast prefix changes said.NeverAnnounced
     → (route : RouteLeft) → Leaves changes prefix route → ⊥
 
--- nor is what it says was taken away
+-- a route that is said to be removed is not left
 abbrev pub EndedIsNotLeft : Type 0
 EndedIsNotLeft =
     (prefix : IpPrefix) (changes : List Change) (time : ℕ) (ending : Ending)

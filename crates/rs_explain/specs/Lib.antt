@@ -1,4 +1,4 @@
--- Why a route is there or not:
+-- Why a client gets a route or not:
 pub mod LastSaid  -- what a list of changes says last of a prefix
 pub mod Reasons  -- the condition or rule that stops a route
 pub mod Removals  -- the step that removes a candidate

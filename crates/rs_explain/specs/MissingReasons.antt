@@ -1,4 +1,4 @@
--- The reason for which a client does not get a route, without what belongs to it.
+-- The reason for which a client does not get a route, without its details.
 use Rattle.std.specs.Prelude.{Option, None, Some}
 use Rattle.rs_explain.specs.declared.explanation.Explanation.{Explanation}
 use Rattle.rs_explain.specs.declared.explanation.Explanation.TheVariants as explanations
@@ -9,13 +9,13 @@ use Rattle.rs_explain.specs.declared.refusal.Refusal.{Refusal}
 use Rattle.rs_explain.specs.declared.refusal.Refusal.TheVariants.{ByName, ToClient, ToAll}
 use Rattle.rs_explain.specs.Reasons.{kind_of}
 
--- a rule that refuses, as a reason
+-- a refusing rule as a reason
 abbrev pub reason_of_refusal : Refusal → MissingReason
 reason_of_refusal ByName = RefusedByName
 reason_of_refusal (ToClient asn) = RefusedByCommunity
 reason_of_refusal (ToAll asn) = RefusedByCommunity
 
--- the reason that an explanation has
+-- the reason in an explanation
 abbrev pub reason_in : Explanation → Option MissingReason
 reason_in explanations.Own = None
 reason_in explanations.Absent = None

@@ -1,6 +1,6 @@
--- Why a route may be no candidate of a client: the condition of eligibility that fails (RFC 4271, section
--- 9.1.2), and the rule of export policy that refuses it (RFC 7947, section 2.3). Which conditions and rules
--- there are is said in `rs_choice`.
+-- Why a route may be no candidate of a client. Either it fails a condition of eligibility (RFC 4271, section 9.1.2).
+-- Or a rule of export policy refuses it (RFC 7947, section 2.3). The conditions and rules themselves are defined in
+-- `rs_choice`.
 use Rattle.std.specs.Prelude.{ℕ, ◌==◌, Bool, not, if◌then◌else◌, List, [], ◌∷◌, Option, None, Some, slice_get}
 use Rattle.std.specs.Option.{option_and_then}
 use Rattle.rs_update.specs.AsPath.{holds_as_in}
@@ -17,12 +17,12 @@ use Rattle.rs_explain.specs.declared.condition.ConditionKind.TheVariants as kind
 use Rattle.rs_explain.specs.declared.refusal.Refusal.{Refusal}
 use Rattle.rs_explain.specs.declared.refusal.Refusal.TheVariants.{ByName, ToClient, ToAll}
 
--- of rows of a test and an answer, the answer of the first row whose test holds
+-- each test stands with an answer; the answer is that of the first test that succeeds
 abbrev pub first_answer : {A : Type 0} → List (Bool × A) → Option A
 first_answer [] = None
 first_answer ((holds, answer) ∷ later) = if holds then Some answer else first_answer later
 
--- the conditions in their order, each by the test that a route fails it
+-- the conditions in their order, each with the test that a route fails it
 abbrev pub conditions : Local → Peer → PathAttributes → List (Bool × Condition)
 conditions local sender attributes =
     (holds_as_in attributes.path local.asn, OwnAs local.asn)
@@ -35,15 +35,15 @@ abbrev pub failed_condition : Plan → ℕ → PathAttributes → Option Conditi
 failed_condition plan number attributes =
     option_and_then (λ sender. first_answer (conditions plan.local sender attributes)) (slice_get plan.peers number)
 
--- which condition it is, without its value
+-- the kind of a condition, without its value
 abbrev pub kind_of : Condition → ConditionKind
 kind_of (OwnAs asn) = kinds.OwnAs
 kind_of (ServerAsNextHop address) = kinds.ServerAsNextHop
 kind_of (NextHopOffExchange address) = kinds.NextHopOffExchange
 
--- the rules in their order, for a client of an AS number that refuses all routes of the sender by its name or
--- not, and a route with these communities: each rule by whether it speaks of the route, and by how it refuses
--- it, or permits it
+-- The rules in their order, for a client of this AS number, and for a route with these communities. The first
+-- argument says whether the client refuses all routes of the sender. Each rule stands with the test that it applies;
+-- it refuses the route or permits it.
 abbrev pub rules : Bool → ℕ → ℕ → Option CommunityList → List (Bool × Option Refusal)
 rules by_name local_asn client_asn communities =
     (by_name, Some ByName)
@@ -51,7 +51,7 @@ rules by_name local_asn client_asn communities =
     ∷ (has_community_in communities local_asn client_asn, None)
     ∷ (has_community_in communities 0 local_asn, Some (ToAll local_asn)) ∷ []
 
--- the first rule that speaks of the route decides
+-- the first rule that applies decides
 abbrev pub ruling : Bool → ℕ → ℕ → Option CommunityList → Option Refusal
 ruling by_name local_asn client_asn communities =
     option_and_then (λ ruling. ruling) (first_answer (rules by_name local_asn client_asn communities))

@@ -9,12 +9,11 @@ use Rattle.rs_explain.specs.declared.contender.Contender.{Contender}
 use Rattle.rs_explain.specs.declared.removal.Removal.{Removal}
 use Rattle.rs_explain.specs.Contenders.{standing_in}
 
--- who beats a candidate at a step: the best one of all, or else the first of the set that does
+-- the candidate that beats another at a step: the best one of all, or else the first of the set that does
 abbrev pub rival_of : Step → Contender → List Contender → Contender → Option Contender
 rival_of step best set loser = find (λ other. beats step other.standing loser.standing) (best ∷ set)
 
--- steps remove a candidate of a set: it is in what the steps before the one that is named leave of the set,
--- and there it is beaten
+-- Steps remove a candidate of a set. It is left by the steps before the named one, and is beaten at the named step.
 pub record IsRemoval (steps : List Step) (set : List Contender) (best loser : Contender)
     (removal : Removal) : Type 0 where
   pub before : List Step
@@ -24,7 +23,7 @@ pub record IsRemoval (steps : List Step) (set : List Contender) (best loser : Co
   pub reaches : Contains (remaining standing_in before set) loser
   pub rival : rival_of removal.step best (remaining standing_in before set) loser ≡ Some removal.rival
 
--- something that the best one doesn't remove before the step by MED beats another there
+-- one candidate beats another by MED, though the best one does not remove it before that step
 abbrev pub beats_by_med : Standing → Standing → Standing → Bool
 beats_by_med best one other =
     not (beats steps.Preference best other) && (not (beats steps.PathLength best other)

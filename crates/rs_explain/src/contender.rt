@@ -37,7 +37,7 @@ pub(crate) fn contender_of(plan: &Exchange, route: &Route) -> Contender
     }
 }
 
-// A route, where it is a candidate of a client.
+// A route, if it is a candidate of a client.
 fn candidate_of(plan: &Exchange, client: usize, route: &Route) -> Option<Contender>
     requires client_known { client < length plan.now.peers }
     requires peer_known { route.now.peer < length plan.now.peers }
@@ -55,7 +55,7 @@ fn candidate_of(plan: &Exchange, client: usize, route: &Route) -> Option<Contend
     Some(contender_of(plan, route))
 }
 
-// The route of a peer on a prefix, where it is a candidate of a client.
+// The route of a peer on a prefix, if it is a candidate of a client.
 fn candidate_on(tables: &Tables, client: usize, peer: usize, on: &PrefixRoutes) -> Option<Contender>
     requires client_known { client < length tables.now.plan.peers }
     requires peer_known { peer < length tables.now.plan.peers }

@@ -48,7 +48,7 @@ pub struct Candidates {
 
 /// Explains why the peer of number `client` has the route of the peer of number `peer` on a prefix, or not.
 ///
-/// Fails where memory is refused, which only the explanation of a candidate asks for.
+/// Fails if memory is refused, which only the explanation of a candidate asks for.
 pub fn explain(
     alloc: Global,
     tables: &Tables,
@@ -72,8 +72,6 @@ pub fn explain(
 
 impl Candidates {
     /// The candidates of the peer of number `client` for a prefix, of the routes there.
-    ///
-    /// Fails where memory is refused.
     pub fn new(
         alloc: Global,
         tables: &Tables,
@@ -92,8 +90,6 @@ impl Candidates {
     }
 
     /// Explains why the client has the route of the peer of number `peer` on the prefix, or not, as `explain` does.
-    ///
-    /// Fails where memory is refused.
     pub fn explain(
         &self,
         alloc: Global,
@@ -117,7 +113,7 @@ impl Candidates {
     }
 }
 
-// Explains why a client has the route of another peer on a prefix, or not. Its candidates are collected only where
+// Explains why a client has the route of another peer on a prefix, or not. Its candidates are collected only if
 // the decision process has to be asked, and they are not known.
 fn explain_other(
     alloc: Global,
@@ -168,7 +164,7 @@ fn decided_on(
     decided(alloc, tables, client, on.prefix, &candidates, one)
 }
 
-// Why a route of another peer is no candidate of a client, where it isn't.
+// Why a route of another peer is no candidate of a client, if it isn't.
 fn reason(plan: &Exchange, client: usize, route: &Route) -> Option<Explanation>
     requires client_known { client < length plan.now.peers }
     requires peer_known { route.now.peer < length plan.now.peers }

@@ -5,6 +5,8 @@
 //!
 //! Reading order: `condition`, `refusal`, `contender` (the candidates of a client), `removal` (the step that
 //! removes one), `explanation`, `missing_reason` (its reason alone). Then `last_said` (the last state of a prefix by a list of changes) and `laws`.
+//!
+//! A call that allocates fails if memory is refused.
 #![tactic(auto)]
 
 mod condition;

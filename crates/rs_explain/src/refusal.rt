@@ -35,7 +35,8 @@ pub(crate) fn refusing_rule(
     ruling(by_name, plan.local().asn, plan.peer(client).asn, attributes)
 }
 
-// The same for a client of an AS number that refuses all routes of the sender by its name, or not.
+// The refusal of a route to a client of this AS number; `by_name` says whether the client refuses all routes of the
+// sender.
 fn ruling(by_name: bool, server: u32, receiver: u32, attributes: &Attributes) -> Option<Refusal>
     ensures { result ≡ ruling by_name server receiver attributes.now.communities }
 {

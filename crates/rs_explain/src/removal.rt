@@ -31,8 +31,8 @@ pub const STEPS: [Step; 6] = [
     Step::Address,
 ];
 
-// How the steps of the decision process remove a candidate of a set, of which the best one is the choice; none where
-// all of them leave it. The best one is named first of those that beat it.
+// How the steps of the decision process remove a candidate of a set; None if all of them leave it. The best one is
+// the choice of the set. If it beats the candidate, it is the one that is named.
 pub(crate) fn removed_by(
     steps: &[Step],
     set: &[Contender],

@@ -15,8 +15,8 @@ use rs_update::Errors;
 use std::alloc::AllocError;
 use std::fs::Files;
 
-/// Adds the lines of a peer, of whose file it is known what it holds, unless it may give its octets only once. Answers
-/// where its session closes.
+/// Adds the lines of a peer, if the content of its file is known. A file that may give its octets only once gets
+/// none. Answers where its session closes.
 pub(crate) fn add_peer<R: AllocGlobal + Files>(
     rt: &R,
     text: &mut String,
@@ -98,7 +98,7 @@ fn may_close(held: &Inventory, peer: Peer) -> bool {
     }
 }
 
-// Adds the line of a peer's session, where it closes before the end of its file. Answers where it closes.
+// Adds the line of a peer's session, if the session closes before the end of its file. Answers where it closes.
 fn add_close<R: AllocGlobal + Files>(
     rt: &R,
     text: &mut String,

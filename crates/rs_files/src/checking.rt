@@ -20,7 +20,7 @@ use std::alloc::{AllocError, Global};
 use std::env::Env;
 use std::fs::Files;
 
-// How many changes are taken for granted of a peer of which a note may be told.
+// How many changes a peer is assumed to have, so that it may get a note.
 const CLOSE_ALONE: u64 = 1;
 
 /// Tells what a run over a configuration would meet that reads its files within bounds and by a standard. The status is
@@ -111,7 +111,7 @@ fn read_contents<'a, R: AllocGlobal + Files>(
     Ok(Contents::new(path, front, held))
 }
 
-// Tells what these files hold of each peer of a setup, where its session closes, and the notes.
+// Says what these files have of each peer of a setup, where its session closes, and the notes.
 fn check_contents<R: AllocGlobal + Files>(
     rt: &R,
     setup: &Setup,

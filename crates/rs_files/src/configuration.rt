@@ -11,8 +11,7 @@ use rs_start::{Counts, IndexPeer, LeftOut};
 use std::alloc::{AllocError, Global};
 use std::net::Ipv4Addr;
 
-/// A configuration to start from, with the peers of a table that get files. The lines of peers are comments. Fails
-/// where memory is refused.
+/// A configuration to start from, with the peers of a table that get files. The lines of peers are comments.
 pub(crate) fn as_toml(
     alloc: Global,
     query: &StartQuery,
@@ -31,7 +30,7 @@ pub(crate) fn as_toml(
     Ok(text)
 }
 
-// Adds the server, which a table doesn't tell.
+// Adds the server, which no table names.
 fn add_server(text: &mut String, collector: u32) -> Result<(), AllocError> {
     let address = Ipv4Addr::from_bits(collector);
     writeln!(
@@ -63,7 +62,7 @@ fn add_listed(
     writeln!(text, "file = {path}")
 }
 
-// Adds what the index tells of a peer with an address.
+// Adds the entry of the index for a peer with an address.
 fn add_peer(text: &mut String, peer: &IndexPeer, address: u32) -> Result<(), AllocError> {
     let (asn, address, id) = (
         peer.asn,

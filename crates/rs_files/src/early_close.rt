@@ -16,7 +16,7 @@ use std::fs::Files;
 /// Where a session closes before the end of its file.
 #[derive(Clone, Copy, Drop)]
 pub(crate) struct EarlyClose {
-    /// How many octets stand before the record that closes it; none where an earlier one is longer than any of a
+    /// How many octets stand before the record that closes it; none if an earlier one is longer than any of a
     /// session.
     pub(crate) octet: Option<u64>,
     /// Why.

@@ -10,7 +10,7 @@ use std::fmt;
 pub(crate) enum Found<'a> {
     /// The file at this path can't be read, for this reason.
     Unreadable(&'a str, &'a str),
-    /// The same of a path that counts from this folder.
+    /// The path of a file, if its own path counts from this folder.
     UnreadableFrom(&'a str, &'a str, &'a str),
     /// The file at this path may give its octets only once, so it isn't read here.
     Unread(&'a str),
@@ -70,7 +70,7 @@ fn write_records<W: fmt::Write>(
     Ok(())
 }
 
-/// Adds the line of what is found of the peer of a name. Fails where memory is refused.
+/// Adds the line of what is found of the peer of a name.
 pub(crate) fn add_line(text: &mut String, name: &str, found: Found<'_>) -> Result<(), AllocError> {
     writeln!(text, "peer {name}: {found}")
 }

@@ -10,6 +10,8 @@
 //! Sessions of a table: `starting` (the whole answer), `chosen` (which table of the file), `listed` (which peers get a
 //! file). Then `session_files` (the files, which are put in place when all are whole) and `sessions` (what is written to
 //! them). Last stand `peer_lines` and `configuration` (the texts), and `table_faults` (why no session is written).
+//!
+//! A call that allocates fails if memory is refused.
 #![tactic(auto)]
 
 mod checked_peer;

@@ -8,7 +8,7 @@ use rs_start::IndexPeer;
 use std::alloc::{AllocError, Global};
 use std::collections::BTreeSet;
 
-/// What the index of a table tells.
+/// The index of a table, as it is listed.
 #[derive(Drop)]
 pub(crate) struct Table {
     /// The time of the table, in seconds since 1970.
@@ -24,7 +24,7 @@ pub(crate) struct Table {
 /// A peer of a table.
 #[derive(Clone, Copy, Debug, PartialEq, Eq, Drop)]
 pub(crate) struct Listed {
-    /// What the index tells of it.
+    /// The entry of the index for a peer.
     pub(crate) peer: IndexPeer,
     /// Whether it gets a file.
     pub(crate) part: Part,
@@ -43,7 +43,7 @@ pub(crate) enum Part {
     Unasked,
 }
 
-/// The peers of an index, in its order. Where addresses are asked for, only their peers get files.
+/// The peers of an index, in its order. If addresses are asked for, only their peers get files.
 pub(crate) fn listed_peers(
     alloc: Global,
     peers: &[IndexPeer],
@@ -61,7 +61,7 @@ pub(crate) fn listed_peers(
     Ok(listed)
 }
 
-// Whether a peer gets a file, where earlier ones have these addresses.
+// Whether a peer gets a file, if earlier peers have these addresses.
 fn part_of(peer: &IndexPeer, asked: &[u32], seen: &BTreeSet<u32>) -> Part {
     match peer.address {
         Some(address) if !asked.is_empty() && !asked.contains(&address) => Part::Unasked,

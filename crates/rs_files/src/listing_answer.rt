@@ -39,7 +39,7 @@ const KINDS: [(&str, Kind); 13] = [
 ];
 
 /// What each file holds, in lines for people: the file; its records by kind and their times; how it ends; then each
-/// peer with its sessions. Between two files stands an empty line. Fails where memory is refused.
+/// peer with its sessions. Between two files stands an empty line.
 pub fn as_text(alloc: Global, files: &[RecordedFile]) -> Result<String, AllocError> {
     let mut text = String::new(alloc);
     for (number, file) in files.iter().enumerate() {
@@ -51,7 +51,7 @@ pub fn as_text(alloc: Global, files: &[RecordedFile]) -> Result<String, AllocErr
     Ok(text)
 }
 
-/// What each file holds, as one JSON object and a line break. Fails where memory is refused.
+/// What each file holds, as one JSON object and a line break.
 pub fn as_json(alloc: Global, files: &[RecordedFile]) -> Result<String, AllocError> {
     let mut list = RowWriter::objects(alloc);
     for file in files {
@@ -106,7 +106,7 @@ fn add_records(text: &mut String, inventory: &Inventory) -> Result<(), AllocErro
     Ok(())
 }
 
-// Adds the line of a kind, where there are records of it.
+// Adds the line of a kind, if there are records of it.
 fn add_kind(text: &mut String, kind: Kind, count: u64) -> Result<(), AllocError> {
     if count == 0 {
         return Ok(());
@@ -166,8 +166,8 @@ fn counts_value(alloc: Global, inventory: &Inventory) -> Result<Value, AllocErro
     object.into_value()
 }
 
-// In which part of which record, counted from 1, a file ends, and at which octet, counted from 0, the record begins;
-// null where it ends with a record.
+// The part of the record in which a file ends, and which record that is, counted from 1. Also the octet at which the
+// record begins, counted from 0. Null if the file ends with a record.
 fn cut_value(alloc: Global, inventory: &Inventory) -> Result<Value, AllocError> {
     let Some(fault) = inventory.end() else {
         return Ok(Value::Null);
@@ -239,7 +239,7 @@ fn identifier_texts(alloc: Global, identifiers: &[u32]) -> Result<Vec<String>, A
     Ok(texts)
 }
 
-// The same as one text.
+// The whole listing as one text.
 fn identifiers_text(alloc: Global, identifiers: &[u32]) -> Result<String, AllocError> {
     if identifiers.is_empty() {
         return String::from_str(alloc, "-");
@@ -279,7 +279,7 @@ fn session_lines(alloc: Global, peer: Peer, session: SessionTimes) -> Result<Str
     Ok(lines)
 }
 
-// A time, or a dash where it isn't recorded.
+// A time, or a dash if it isn't recorded.
 fn time_text(alloc: Global, time: Option<u32>) -> Result<String, AllocError> {
     match time {
         Some(time) => {

@@ -18,7 +18,7 @@ pub(crate) struct Pieces {
     order: Vec<usize>,
 }
 
-// What all files tell of a peer.
+// The content of all files for a peer.
 #[derive(Clone, Copy, Drop)]
 struct Told {
     // The number of the first file of the command line in which it has messages.
@@ -84,8 +84,8 @@ impl Pieces {
         self.peers.get(&peer)?.identifier
     }
 
-    /// The command of a shell that joins those of these files that are pieces, by their first times, to a file of this name;
-    /// none where none is. Where one of them is there only while the command runs, none is named.
+    /// The command of a shell that joins the pieces among these files, by their first times, to a file of this name.
+    /// None if no file is a piece. If one of them is there only while the command runs, there is no command.
     pub(crate) fn command(
         &self,
         alloc: Global,
@@ -145,7 +145,7 @@ fn by_first_time(alloc: Global, files: &[RecordedFile]) -> Result<Vec<usize>, Al
     Ok(order)
 }
 
-// What files tell of a peer with one file more, of a number.
+// The content of files for a peer, with that of one more file, which has this number.
 fn told_with(told: Option<Told>, number: usize, records: &PeerRecords) -> Told {
     let mut told = told.unwrap_or(Told {
         first: None,

@@ -29,7 +29,7 @@ struct Configuration {
 }
 
 /// A configuration to start from, with the peers of all files of which a message of a session with four-octet AS
-/// numbers is recorded. Where no file has any, it has comments alone. Fails where memory is refused.
+/// numbers is recorded. If no file has any, it has comments alone.
 pub fn as_toml(alloc: Global, files: &[RecordedFile]) -> Result<String, AllocError> {
     let mut configuration = Configuration {
         text: String::new(alloc),
@@ -65,7 +65,7 @@ impl Configuration {
         writeln!(self.text, "address = \"{address}\"")
     }
 
-    // Adds how the pieces of a recording are joined, where there are any.
+    // Adds how the pieces of a recording are joined, if there are any.
     fn add_join(&mut self, alloc: Global, files: &[RecordedFile]) -> Result<(), AllocError> {
         let Some(command) = self.pieces.command(alloc, files, JOINED)? else {
             return Ok(());
@@ -94,7 +94,7 @@ impl Configuration {
         Ok(())
     }
 
-    // Adds a peer, or a comment where it can't be one.
+    // Adds a peer, or a comment if it can't be one.
     fn add_peer(
         &mut self,
         peer: Peer,

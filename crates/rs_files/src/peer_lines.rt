@@ -9,8 +9,8 @@ use rs_start::{Counts, LeftOut};
 use std::alloc::{AllocError, Global};
 use std::net::Ipv4Addr;
 
-/// A line for the table that is taken of several, one for each peer that is asked for, and one for what is left out of the
-/// table beside. Fails where memory is refused.
+/// A line for the table that is taken, if there are several, and one for each peer that is asked for. The last line
+/// is for what is left out of the table otherwise.
 pub(crate) fn as_text(
     alloc: Global,
     query: &StartQuery,
@@ -98,7 +98,7 @@ pub(crate) fn add_table_line(
     writeln!(text, "{mark}{line}")
 }
 
-// Adds what is left out, each kind by its name and number, behind a text: nothing where nothing is.
+// Adds what is left out, each kind by its name and number, behind a text: nothing if nothing is.
 fn add_left_out(
     text: &mut String,
     front: &str,

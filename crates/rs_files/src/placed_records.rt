@@ -13,7 +13,7 @@ use std::marker::Model;
 pub(crate) struct PlacedRecords<'a, S> {
     /// The source, of which no record was shown before.
     pub(crate) records: S,
-    /// How many octets stand before the record, 0 at first; none where that isn't known.
+    /// How many octets stand before the record, 0 at first; none if that isn't known.
     pub(crate) octet: &'a Cell<Option<u64>>,
 }
 

@@ -7,8 +7,8 @@ use rs_host::on_one_line;
 use std::alloc::{AllocError, Global};
 use toml::{Table, Value};
 
-/// Adds the fault of a plan in words: what is wrong, and with the names of which peers. `octets` are the configuration.
-/// Fails if memory is refused.
+/// Adds the fault of a plan in words: what is wrong, and with the names of which peers. `octets` are the
+/// configuration.
 pub(crate) fn add_plan_fault(
     alloc: Global,
     text: &mut String,

@@ -1,4 +1,4 @@
-//! A file of which it is shown what it holds.
+//! A recorded file whose content is shown.
 
 use rs_inventory::Inventory;
 use rs_notes::Format;
@@ -8,7 +8,7 @@ use rs_notes::Format;
 pub struct RecordedFile {
     /// Its path.
     pub path: String,
-    /// Of what format it is, where it has no record of a known kind and begins as a zip, pcap or text file does.
+    /// Of what format it is, if it has no record of a known kind and begins as a zip, pcap or text file does.
     pub format: Option<Format>,
     /// What it holds.
     pub inventory: Inventory,

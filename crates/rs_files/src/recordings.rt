@@ -52,8 +52,8 @@ fn recorded_file<R: AllocGlobal + Files>(rt: &R, path: String) -> Result<Recorde
     })
 }
 
-/// The inventory of the recorded file at a path, of as much as is read within bounds. Fails with `Unread` where the file
-/// can't be read, with `Memory` where memory is refused.
+/// The inventory of the recorded file at a path, of as much as is read within bounds. Fails with `Unread` if the
+/// file can't be read, with `Memory` if memory is refused.
 pub(crate) fn inventory_at<R: AllocGlobal + Files>(
     rt: &R,
     path: &str,

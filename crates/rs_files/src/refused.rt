@@ -5,8 +5,8 @@ use rs_host::{on_one_line, setup_line};
 use rs_setup::SetupFault;
 use std::alloc::{AllocError, Global};
 
-/// The line that tells why the configuration at a path, which is these octets, would be refused: with line and column
-/// if it isn't TOML, and with the fault of its plan in words. Fails if memory is refused.
+/// The line that says why the configuration at a path, which is these octets, would be refused. If it isn't TOML,
+/// the line has line and column. If its plan has a fault, the line has the fault in words.
 pub(crate) fn refusal_text(
     alloc: Global,
     path: &str,
@@ -24,7 +24,7 @@ pub(crate) fn refusal_text(
     Ok(text)
 }
 
-// Adds where the text of a configuration isn't TOML, and why.
+// Adds where and why the text of a configuration isn't TOML.
 fn add_place(alloc: Global, text: &mut String, octets: &[u8]) -> Result<(), AllocError> {
     let Err(error) = toml::table_from_slice(alloc, octets) else {
         return Ok(());

@@ -22,7 +22,7 @@ pub(crate) struct SessionFile {
     place: String,
 }
 
-/// The path of the session of the peer with an address. Fails where memory is refused.
+/// The path of the session of the peer with an address.
 pub(crate) fn session_path(
     alloc: Global,
     folder: &str,
@@ -67,8 +67,8 @@ pub(crate) fn create<R: AllocGlobal + Files>(
     }
 }
 
-// Whether a session may be put in a place: nothing is known to be there, or a file is; and that, like what stands in the
-// place of its part file, isn't the table at this path.
+// Whether a session may be put in a place: nothing is known to be there, or a file is. Neither that file nor the one
+// in the place of its part file may be the table at this path.
 fn is_free<R: AllocGlobal + Files>(rt: &R, place: &str, table: &str) -> Result<bool, AllocError> {
     match fs::symlink_metadata(rt, place) {
         Ok(found) if !found.is_file() => return Ok(false),

@@ -13,7 +13,7 @@ use rs_start::{Counts, PeerSession, SessionWriter, Start};
 use std::alloc::{AllocError, Global};
 use std::fs::Files;
 
-/// The AS number of a collector, which a table doesn't tell.
+/// The AS number of a collector, which no table has.
 pub(crate) const COLLECTOR_AS: u32 = 65535;
 
 /// Begins the sessions of the peers of a table, in its order. Their files get to `files`.
@@ -63,7 +63,7 @@ fn begin_session<R: AllocGlobal + Files>(
     Ok(Some(writer))
 }
 
-/// What became of the entries of each peer. Fails where memory is refused.
+/// What became of the entries of each peer.
 pub(crate) fn counts_of<W: Write + Drop>(
     alloc: Global,
     sessions: &[PeerSession<W>],

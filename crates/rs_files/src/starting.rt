@@ -16,7 +16,7 @@ use std::fs::Files;
 use std::net::Ipv4Addr;
 
 /// Writes the beginning of the session of each peer of a table to a file, and answers how many routes each has. Of several
-/// tables in a file one is taken. Where anything fails, no file is left of those that were begun.
+/// tables in a file one is taken. If anything fails, no file is left of those that were begun.
 pub fn start<R: AllocGlobal + Files>(rt: &R, query: &StartQuery) -> Result<Reply, Unanswered> {
     let mut files = Vec::new(rt.alloc());
     match written(rt, query, &mut files) {
@@ -28,7 +28,8 @@ pub fn start<R: AllocGlobal + Files>(rt: &R, query: &StartQuery) -> Result<Reply
     }
 }
 
-// Writes the sessions, and puts their files in place once all are whole. The text tells how many routes each has.
+// Writes the sessions, and puts their files in place once all are whole. The text says how many routes each session
+// has.
 fn written<R: AllocGlobal + Files>(
     rt: &R,
     query: &StartQuery,

@@ -8,7 +8,7 @@ use rs_query::StartQuery;
 use rs_start::{Broken, RoutesFault, TableFault};
 use std::alloc::{AllocError, Global};
 
-/// A fault of the table at a path: the text tells at which octet.
+/// A fault of the table at a path: the text says at which octet.
 pub(crate) fn by_table(alloc: Global, path: &str, fault: TableFault) -> Unanswered {
     match fault {
         TableFault::Memory => Unanswered::Memory,

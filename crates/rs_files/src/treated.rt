@@ -25,8 +25,8 @@ enum Told {
     Unread,
 }
 
-/// How many UPDATEs of a peer are treated as withdrawn by RFC 7606, in the file at a path, which is read within the bounds
-/// that are asked for. Fails with `Unread` if the file can't be read, with `Memory` if memory is refused.
+/// How many UPDATEs of a peer in the file at a path are treated as withdrawn by RFC 7606. The file is read within
+/// the bounds that are asked for. Fails with `Unread` if the file can't be read, with `Memory` if memory is refused.
 pub(crate) fn treated_at<R: AllocGlobal + Files>(
     rt: &R,
     path: &str,
@@ -44,7 +44,7 @@ pub(crate) fn treated_at<R: AllocGlobal + Files>(
     }
 }
 
-// How many UPDATEs of a peer are treated as withdrawn, of those that a reader gives; none where a read fails.
+// How many UPDATEs of a peer are treated as withdrawn, of those that a reader gives; none if a read fails.
 fn count_treated<R: Read + Drop>(
     alloc: Global,
     reader: R,
@@ -65,7 +65,7 @@ fn count_treated<R: Read + Drop>(
     Ok(Some(count))
 }
 
-// Goes to the next record, and tells what it is to the session of a peer.
+// Goes to the next record, and answers what the record means for the session of a peer.
 fn told_next<S: Source>(alloc: Global, records: &mut S, peer: PeerId) -> Result<Told, AllocError> {
     match records.advance() {
         Ok(true) => {}

@@ -13,8 +13,8 @@ use std::io::ErrorKind;
 // Why a file can't be read that an earlier peer reads.
 const READ_BEFORE: &str = "it gives its octets only once, and an earlier peer reads it";
 
-/// A line for each peer whose file can't be opened. If all can be, one for the first peer whose file gives its octets
-/// only once and is read by an earlier peer. Fails where memory is refused.
+/// A line for each peer whose file can't be opened. If all can be, one for the first peer whose file gives its
+/// octets only once and is read by an earlier peer.
 pub(crate) fn unreadable_text<R: AllocGlobal + Files + Env>(
     rt: &R,
     setup: &Setup,
@@ -34,7 +34,7 @@ pub(crate) fn unreadable_text<R: AllocGlobal + Files + Env>(
     Ok(text)
 }
 
-// Adds why a file can't be opened, where it can't.
+// Adds why a file can't be opened, if it can't.
 fn add_unopened<R: AllocGlobal + Files + Env>(
     rt: &R,
     text: &mut String,
@@ -51,7 +51,7 @@ fn add_unopened<R: AllocGlobal + Files + Env>(
     }
 }
 
-// Why the file at a path can't be opened, where it can't. A pipe isn't tried, since that may wait for its writer.
+// Why the file at a path can't be opened, if it can't. A pipe isn't tried, since that may wait for its writer.
 fn unopened_at<R: Files>(rt: &R, path: &str) -> Result<Option<&'static str>, AllocError> {
     match found_at(rt, path)? {
         Some(found) if found.is_dir() => return Ok(Some("it is a folder")),
@@ -68,7 +68,7 @@ fn unopened_at<R: Files>(rt: &R, path: &str) -> Result<Option<&'static str>, All
     }))
 }
 
-// The folder from which a path counts, on one line; none where it counts from the root, or where that isn't known.
+// The folder from which a path counts, on one line; none if it counts from the root, or if that isn't known.
 fn folder_before<R: AllocGlobal + Env>(rt: &R, path: &str) -> Result<Option<String>, AllocError> {
     if path.starts_with("/") {
         return Ok(None);

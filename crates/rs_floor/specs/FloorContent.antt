@@ -14,7 +14,7 @@ use Rattle.rs_floor.specs.Schedule.{at_start, after_turns}
 use Rattle.rs_floor.specs.declared.counts.Counts.{Counts}
 use Rattle.rs_floor.specs.declared.turn.Turn.{Turn}
 
--- the tables, and how far each peer has come
+-- the tables, and how many changes of each peer were sent and received
 pub record FloorContent : Type 0 where
   pub tables : TablesContent
   pub counts : List Counts
@@ -47,14 +47,14 @@ AreFresh plan files capacity lanes =
 abbrev pub counts_of : List Counts → ℕ → Counts
 counts_of counts peer = slice_index_or counts peer at_start
 
--- a peer with these changes at the end of a schedule: its counts, and the tables hold what the changes that
--- were received leave
+-- a peer with these changes at the end of a schedule: its counts are right, and the tables have what its received
+-- changes leave
 pub record IsPeerReplayed (changes : List Change) (counts : Counts) (floor : FloorContent) (peer : ℕ) : Type 0 where
   pub counts_are : slice_get floor.counts peer ≡ Some counts
   pub rib : slice_get floor.tables.ribs peer ≡ Some (rib_left (take counts.received changes))
 
--- the end of a schedule of peers of which this is recorded: each has come as far as the turns say, from
--- nothing sent
+-- The end of a schedule, if these changes are recorded of the peers. The counts of each peer are those that the
+-- turns give, beginning with nothing sent.
 pub record IsReplayed (plan : Plan) (recorded : List (List Change)) (capacity : ℕ) (turns : List Turn)
     (floor : FloorContent) : Type 0 where
   pub plan_is : floor.tables.plan ≡ plan

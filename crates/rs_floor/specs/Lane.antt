@@ -12,7 +12,7 @@ use Rattle.rs_floor.specs.Schedule.{at_start, after_turn, after_turns}
 use Rattle.rs_floor.specs.declared.counts.Counts.{Counts}
 use Rattle.rs_floor.specs.declared.turn.Turn.{Turn}
 
--- all changes in the peer's file, the capacity of its ring, and how far the peer has come
+-- all changes in the peer's file, the capacity of its ring, and how many changes were sent and received
 pub record LaneContent : Type 0 where
   pub recorded : List Change
   pub capacity : ℕ
@@ -27,15 +27,15 @@ to_come stage =
 abbrev pub sent_changes : List Word → List Change
 sent_changes sent = map change_of sent
 
--- none closes before the last one
+-- no change before the last one is a close
 abbrev pub NoneClosesBefore : List Change → Type 0
 NoneClosesBefore recorded = (n : ℕ) → n < length recorded → list_any is_close (take n recorded) ≡ false
 
--- before the first turn
+-- a lane before the first turn
 abbrev pub fresh_lane : ℕ → PeerId → List ℕ → LaneContent
 fresh_lane capacity peer file = record { recorded = changes_in peer file; capacity = capacity; counts = at_start }
 
--- after a turn, and after several
+-- a lane after one turn, and below, after several
 abbrev pub lane_after : ℕ → LaneContent → Turn → LaneContent
 lane_after peer lane turn =
     record lane { counts = after_turn lane.capacity (length lane.recorded) peer lane.counts turn }

@@ -10,7 +10,7 @@ lane_view l = record {
   counts = record { sent = length l.sender.sent; received = length l.receiver.received };
 }
 
--- the two ends are of one ring, what was received is a beginning of what was sent, and the changes can be numbered
+-- The two ends belong to one ring, the items received are the first of those sent, and the changes can be numbered.
 pub record IsLane (l : Inside) : Type 0 where
   pub pair : l.sender.ring ≡ l.receiver.ring
   pub capacity : l.sender.capacity ≡ l.capacity

@@ -1,4 +1,4 @@
--- What holds of the definitions: each is the contract of a function that does nothing.
+-- What is true of the definitions: each statement is the contract of a function that does nothing.
 use Rattle.std.specs.Prelude.{◌≡◌, ℕ, List, length, slice_get, Some}
 use Rattle.rs_choice.specs.Plan.{Plan}
 use Rattle.rs_session.specs.Change.{Change}
@@ -10,14 +10,15 @@ use Rattle.rs_floor.specs.FloorContent.{FloorContent, IsReplayed, recorded_by}
 use Rattle.rs_floor.specs.declared.counts.Counts.{Counts}
 use Rattle.rs_floor.specs.declared.turn.Turn.{Turn}
 
--- all that is recorded was received
+-- all recorded changes were received
 abbrev pub IsDrained : List (List Change) → FloorContent → Type 0
 IsDrained recorded floor =
     (peer : ℕ) (changes : List Change) (counts : Counts) → slice_get recorded peer ≡ Some changes
     → slice_get floor.counts peer ≡ Some counts
     → counts.received ≡ length changes
 
--- where all was received, the tables are those of what is recorded, whatever the capacity and the turns
+-- if all changes were received, the tables are those of the recorded changes, whatever the capacity and the turns
+-- were
 abbrev pub DrainedSchedulesAgree : Type 0
 DrainedSchedulesAgree =
     (plan : Plan) (files : List (List ℕ)) (capacity : ℕ) (turns : List Turn) (floor : FloorContent)
@@ -30,7 +31,7 @@ DrainedSchedulesAgree =
 abbrev pub dump_of : TablesContent → ℕ → ℕ → List ℕ
 dump_of tables client time = dumped tables.plan client (table_of tables client) time
 
--- where all that the files say was received, each dump is that of the files alone
+-- if all changes of the files were received, each dump depends on the files alone
 abbrev pub DrainedDumpsAreOfFiles : Type 0
 DrainedDumpsAreOfFiles =
     (plan : Plan) (files : List (List ℕ)) (capacity : ℕ) (turns : List Turn) (floor : FloorContent)
@@ -38,7 +39,7 @@ DrainedDumpsAreOfFiles =
     → (client time : ℕ)
     → dump_of floor.tables client time ≡ dump_of (tables_of plan (recorded_by plan files)) client time
 
--- so any two such schedules, of whatever capacity, give the same octets
+-- any two such schedules, of whatever capacity, give the same octets
 abbrev pub DrainedDumpsAgree : Type 0
 DrainedDumpsAgree =
     (plan : Plan) (files : List (List ℕ)) (capacity other_capacity : ℕ) (turns other_turns : List Turn)

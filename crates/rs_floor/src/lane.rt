@@ -41,7 +41,7 @@ impl<'a> Model for Lane<'a> {
 }
 
 impl<'a> Lane<'a> {
-    // The lane of a peer with this file, before anything was sent. Refused where memory is.
+    // The lane of a peer with this file, before anything was sent. Refused if memory is.
     pub(crate) fn new(
         alloc: Global,
         file: &'a [u8],
@@ -66,7 +66,7 @@ impl<'a> Lane<'a> {
         })
     }
 
-    // Sends the next change, where one is left and fewer than the capacity wait. Refused where the session is
+    // Sends the next change, if one is left and fewer than the capacity wait. Refused if the session is
     // refused memory.
     pub(crate) fn send(&mut self) -> Result<(), AllocError>
         ensures { OnOk result (self.new
@@ -84,7 +84,7 @@ impl<'a> Lane<'a> {
         }
     }
 
-    // Receives a change, where one waits.
+    // Receives a change, if one waits.
     pub(crate) fn receive(&mut self) -> Option<Word>
         ensures counts { self.new ≡ record self.old { counts = after_receive self.old.counts } }
         ensures given { IfSome result (λ word. slice_get self.old.recorded self.old.counts.received

@@ -2,13 +2,13 @@
 
 ghost use Rattle.rs_floor.specs.Laws.{DrainedDumpsAgree, DrainedDumpsAreOfFiles, DrainedSchedulesAgree};
 
-/// Where all that the files say was received, the tables are those of the files alone: so any two such
+/// If all that the files say was received, the tables are those of the files alone: so any two such
 /// schedules, of whatever capacity, give every client the same table.
 pub fn drained_schedules_agree()
     ensures { DrainedSchedulesAgree }
 {}
 
-/// Where all that the files say was received, the dump of each client is that of the files alone: so any two
+/// If all that the files say was received, the dump of each client is that of the files alone: so any two
 /// such schedules, of whatever capacity, give the same octets.
 pub fn drained_schedules_dump_alike()
     ensures files { DrainedDumpsAreOfFiles }

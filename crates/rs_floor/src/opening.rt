@@ -10,7 +10,7 @@ use rs_choice::Exchange;
 use rs_serve::peer_id;
 use std::alloc::{AllocError, Global};
 
-// A lane for each peer, in the order of the peers. Refused where memory is.
+// A lane for each peer, in the order of the peers. Refused if memory is.
 pub(crate) fn open_lanes<'a>(
     alloc: Global,
     plan: &Exchange,

@@ -15,12 +15,12 @@ use rs_table::Tables;
 use std::alloc::Global;
 use std::sync::Arc;
 
-/// Runs a schedule: `files` has the recorded file of each peer, in the order of the peers, each shorter than
-/// 2^50 octets, and each peer has a ring of that capacity. A turn that cannot be taken does nothing, nor does
-/// one of a peer that isn't there.
+/// Runs a schedule. `files` has the recorded file of each peer, in the order of the peers, each shorter than 2^50
+/// octets. Each peer has a ring of that capacity. A turn that cannot be taken does nothing, nor does one of a peer
+/// that isn't there.
 ///
-/// Fails with `Capacity` where the capacity isn't from 1 to 65,536, which is tested first, and with `Memory`
-/// where memory is refused.
+/// Fails with `Capacity` if the capacity isn't from 1 to 65,536, which is tested first, and with `Memory` if memory
+/// is refused.
 pub fn replay(
     alloc: Global,
     plan: &Arc<Exchange>,

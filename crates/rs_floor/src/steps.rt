@@ -13,7 +13,7 @@ use crate::turn::Turn;
 use rs_table::Tables;
 use std::alloc::{AllocError, Global};
 
-// Takes all turns in order, and answers how far each peer came. Refused where memory is; then some turns were taken.
+// Takes all turns in order, and answers how far each peer came. Refused if memory is; then some turns were taken.
 pub(crate) fn run_turns(
     alloc: Global,
     lanes: &mut [Lane<'_>],
@@ -30,7 +30,7 @@ pub(crate) fn run_turns(
     all_counts(alloc, lanes)
 }
 
-// Takes all turns in order. Refused where memory is; then some were taken.
+// Takes all turns in order. Refused if memory is; then some were taken.
 fn take_turns(lanes: &mut [Lane<'_>], tables: &mut Tables, turns: &[Turn]) -> Result<(), AllocError>
     requires count { length lanes.old ≡ length tables.old.plan.peers }
     requires held { HoldReceived tables.old lanes.old }

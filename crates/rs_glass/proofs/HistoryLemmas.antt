@@ -92,13 +92,13 @@ module _ (plan : Plan) where
   abbrev rib_after : List Happening → ℕ → RibContent
   rib_after happenings peer = rib_left (up_to_close (changes_from peer happenings))
 
-  -- what is held of each peer
+  -- the content of each peer
   rib_of-after : (happenings : List Happening) (peer : ℕ) → peer < length plan.peers
       → rib_of (tables_after plan happenings) peer ≡ rib_after happenings peer
   rib_of-after happenings peer known =
       get_or-map-range_with_len (rib_after happenings) 0 (length plan.peers) peer peer nothing_held known (omega arith)
 
-  -- tables of which each peer's is held are these
+  -- tables in which the content of each peer is this are these tables
   tables-same : (happenings : List Happening) (tables : TablesContent) → tables.plan ≡ plan → length tables.ribs ≡ length plan.peers
       → ((peer : ℕ) → peer < length plan.peers → rib_of tables peer ≡ rib_after happenings peer) → tables ≡ tables_after plan happenings
   tables-same happenings tables same_plan count each =

@@ -40,7 +40,7 @@ module _ (all : List (Result Heard GlassFault)) where
   pub heard-none : (tables : TablesContent) (said : List Said) → AreHeard all 0 tables said
   heard-none tables said number below = absurd (omega (arith, below))
 
-  -- what was heard of one peer more is held of it
+  -- what was read of one more peer is in the tables
   pub heard-more : (count : ℕ) (before later : TablesContent) (said : List Said) (heard : Heard) → AreHeard all count before said
       → length said ≡ count → slice_get all count ≡ Some (Ok heard) → (rib_of later count).routes ≡ heard.routes
       → ((other : ℕ) → other ≢ count → rib_of later other ≡ rib_of before other) → AreHeard all (count + 1) later (said ++ heard.said ∷ [])
@@ -103,7 +103,7 @@ module _ {R : Type 0} (gives : R → List ℕ → ReadEnd → Type 0) (question 
       × (slice_get jobs number ≡ Some one) × HeardOf gives question one r
 
   module _ (recorded : AreRecordings plan readers jobs) (heard_of : AreHeardOf) where
-    -- what is held of all peers is what their recorded sessions say
+    -- the answers and routes of all peers are those of their recorded sessions
     pub all-said : (tables : TablesContent) (said : List Said) → length all ≡ length readers → AreHeard all (length all) tables said
         → AreSaidOf gives question plan readers (length readers) tables said
     all-said tables said as_many held number below peer at_peer reader at_reader one at_one =

@@ -1,5 +1,5 @@
--- Why a change came, if the record that gave it says more than the change (RFC 4271, sections 4.5, 6.3 and 8.2.2; RFC
--- 7606, section 2).
+-- Why a change came, if its record says more than the change (RFC 4271, sections 4.5, 6.3 and 8.2.2; RFC 7606,
+-- section 2).
 use Rattle.std.specs.Prelude.{Option, None, Some}
 use Rattle.std.specs.Option.{option_and_then, option_map}
 use Rattle.rs_mrt.specs.Record.{MrtRecord}
@@ -11,7 +11,8 @@ use Rattle.rs_glass.specs.declared.cause.Cause.{Cause}
 use Rattle.rs_glass.specs.declared.cause.Cause.TheVariants as causes
 use Rattle.rs_glass.specs.declared.loss.Loss.{Loss}
 
--- of a withdrawal: the fault for which its UPDATE is treated so, if it is; of a loss: how the session was lost
+-- of a withdrawal: the fault because of which its UPDATE is treated as a withdrawal, if there is one; of a loss: how
+-- the session was lost
 abbrev pub body_cause : Errors → MrtRecord → ChangeBody → Option Cause
 body_cause errors recorded (Announced prefix attributes) = None
 body_cause errors recorded (Withdrawn prefix) = option_map causes.Treated (treated_by errors prefix recorded)
@@ -21,7 +22,7 @@ body_cause errors recorded (Closed reason) = None
 abbrev pub cause_by : Errors → Change → MrtRecord → Option Cause
 cause_by errors change recorded = body_cause errors recorded change.body
 
--- the same by the record that gave the change, if a record did
+-- the cause of a change, by the record that gave the change, if a record did
 abbrev pub cause_behind : Errors → Option MrtRecord → Change → Option Cause
 cause_behind errors said_by change = option_and_then (cause_by errors change) said_by
 

@@ -1,4 +1,4 @@
--- The answers of the looking glass: what is explained of each peer, and what the client gets.
+-- The answers of the looking glass: the explanation for each peer, and the route that the client gets.
 use Rattle.std.specs.Prelude.{◌≡◌, ◌⊎◌, ◌<◌, ℕ, false, List, Option, Some, None, slice_get}
 use Rattle.std.specs.Option.{option_map}
 use Rattle.rs_update.specs.IpPrefix.{IpPrefix}
@@ -15,8 +15,8 @@ use Rattle.rs_glass.specs.declared.said.Said.{Said}
 abbrev pub best_from : TablesContent → ℕ → IpPrefix → Option ℕ
 best_from tables client prefix = option_map (λ route. route.peer) (best_of tables client prefix)
 
--- this is the longest prefix that covers one and on which some peer has a route, and what the client gets there;
--- none is told where that is the prefix itself, or where there is none (RFC 4271, section 9.1.4)
+-- Of the prefixes that cover this one, the answer is the longest on which some peer has a route, and what the client
+-- gets there. None says that there is no such prefix, or that it is the prefix itself (RFC 4271, section 9.1.4).
 abbrev pub IsLessSpecific : TablesContent → ℕ → IpPrefix → Option LessSpecific → Type 0
 IsLessSpecific tables client prefix None =
     NoneIsHeld tables.ribs prefix ⊎ IsLongestHeld tables.ribs prefix prefix
@@ -24,8 +24,7 @@ IsLessSpecific tables client prefix (Some wide) =
     IsLongestHeld tables.ribs prefix wide.prefix × (same_prefix prefix wide.prefix ≡ false)
     × (wide.best ≡ best_from tables client wide.prefix)
 
--- these are the answers for the peers below a number: each with its explanation, and with what the peer's
--- changes say last
+-- the answers for the peers below a number: each has the explanation, and the last changes of the peer on the prefix
 abbrev pub AreExplained : TablesContent → ℕ → IpPrefix → List Said → ℕ → List Answer → Type 0
 AreExplained tables client prefix all count answers =
     (number : ℕ) → number < count → (answer : Answer) → slice_get answers number ≡ Some answer

@@ -1,4 +1,4 @@
--- What the records of a peer's session say, each change with the record that says it (RFC 6396, section 4.4).
+-- The changes that the records of a peer's session give, each with its record (RFC 6396, section 4.4).
 use Rattle.std.specs.Prelude.{List, [], ◌∷◌, ◌++◌, Option, None, Some, find, map}
 use Rattle.std.specs.List.{flat_map}
 use Rattle.std.specs.Option.{option_and_then}
@@ -16,14 +16,14 @@ use Rattle.rs_glass.specs.Moments.{later_of}
 use Rattle.rs_glass.specs.declared.cause.Cause.{Cause}
 use Rattle.rs_glass.specs.declared.moment.Moment.{Moment}
 
--- a change, and the record that says it; none where the session closes for how its file ends
+-- a change and the record that gave it; there is no record if the session closes because its file ends
 pub record SaidChange : Type 0 where
   pub change : Change
   pub said_by : Option MrtRecord
 
 -- ---- all changes of a session
 
--- what a record says
+-- the changes that a record gave, with the record
 abbrev pub all_said_by : MrtRecord → List Change → List SaidChange
 all_said_by r changes = map (λ change. record { change = change; said_by = Some r }) changes
 
@@ -34,12 +34,12 @@ said_of errors peer r = all_said_by r (changes_by r.time (effect_of errors peer 
 abbrev pub closing_at_end : Reason → SaidChange
 closing_at_end reason = record { change = close_at 0 reason; said_by = None }
 
--- the close: by the first record that ends the session, or else by how the file ends
+-- the close: it comes from the first record that ends the session, or else from the end of the file
 abbrev pub said_last : Errors → PeerId → Option SourceFault → Option MrtRecord → List SaidChange
 said_last errors peer end (Some r) = said_of errors peer r
 said_last errors peer end None = closing_at_end (reason_at_end end) ∷ []
 
--- what the records before the close say, in order, and then the close
+-- the changes of the records before the close, in order, and then the close
 unfoldable pub said_in : Errors → PeerId → List MrtRecord → Option SourceFault → List SaidChange
 said_in errors peer records end =
     flat_map (said_of errors peer) (open_records errors peer records)
@@ -47,15 +47,16 @@ said_in errors peer records end =
 
 -- ---- one change
 
--- why it came, faults being handled by one of the standards
+-- why a change came; faults are handled by one of the standards
 abbrev pub cause_in : Errors → SaidChange → Option Cause
 cause_in errors one = cause_behind errors one.said_by one.change
 
--- when its record came
+-- when the record of a change came
 abbrev pub moment_of : SaidChange → Moment
 moment_of one = record { seconds = one.change.time; microseconds = option_and_then microseconds_in one.said_by }
 
--- when it counts behind others in its file: then, but no earlier than any of those
+-- the moment at which a change counts: that of its record, but no earlier than those of the changes before it in its
+-- file
 abbrev pub counts_at : List SaidChange → SaidChange → Moment
 counts_at [] one = moment_of one
 counts_at (first ∷ before) one = later_of (moment_of first) (counts_at before one)

@@ -23,7 +23,8 @@ use Rattle.rs_glass.specs.declared.happened.Happening.{Happening}
 use Rattle.rs_glass.specs.declared.moment.Moment.{Moment}
 use Rattle.rs_glass.specs.declared.question.Question.{Question}
 
--- a change happens on a prefix: it announces or withdraws just that one, or is a loss or a close of the session
+-- a change happens on a prefix if it announces or withdraws exactly this prefix, or is a loss or a close of the
+-- session
 abbrev pub body_happens : IpPrefix → ChangeBody → Bool
 body_happens prefix (Announced changed attributes) = same_prefix prefix changed
 body_happens prefix (Withdrawn changed) = same_prefix prefix changed
@@ -33,7 +34,7 @@ body_happens prefix (Closed reason) = true
 abbrev pub happens_on : IpPrefix → Change → Bool
 happens_on prefix change = body_happens prefix change.body
 
--- what happened, of whom, when it counts, what changed, and why
+-- something that happened: the peer, the moment at which it counts, the change, and its cause
 pub record HappeningContent : Type 0 where
   pub peer : ℕ
   pub moment : Moment
@@ -50,7 +51,7 @@ happening_content one =
 abbrev pub contents_of : List Happening → List HappeningContent
 contents_of = map happening_content
 
--- what happens on the prefix that is asked for in the file of a peer
+-- a change in the file of a peer, if it happens on the prefix that is asked for
 abbrev pub happens_at : Question → ℕ → Moment → SaidChange → List HappeningContent
 happens_at question peer moment one =
     if happens_on question.prefix one.change
@@ -62,14 +63,13 @@ happens_behind question peer before one = happens_at question peer (counts_at be
 abbrev pub happened_in : Question → ℕ → List SaidChange → List HappeningContent
 happened_in question peer said = each_behind (happens_behind question peer) [] said
 
--- and in the files of all peers, from a number on, file after file
+-- what happens in the files of all peers, from a number on, file after file
 abbrev pub happened_among : Question → ℕ → List (List SaidChange) → List HappeningContent
 happened_among question number [] = []
 happened_among question number (said ∷ later) =
     happened_in question number said ++ happened_among question (number + 1) later
 
--- what a peer's recorded session says in all, each change with its record, no read having failed: its records may come
--- of the reader
+-- All changes of a peer's recorded session, each with its record. No read failed: the reader may give these records.
 pub record IsSaidWhole {R : Type 0} (gives : R → List ℕ → ReadEnd → Type 0) (question : Question) (peer : PeerId)
     (reader : R) (said : List SaidChange) : Type 0 where
   pub records : List MrtRecord
@@ -79,7 +79,7 @@ pub record IsSaidWhole {R : Type 0} (gives : R → List ℕ → ReadEnd → Type
   pub says : AreChangesOf gives question peer reader (map (λ one. one.change) said)
   pub unfailed : is_failed_read (close_in (map (λ one. one.change) said)) ≡ false
 
--- the same of the peer of a number
+-- all changes of the peer that has this number, each with its record
 pub record AreWhole {R : Type 0} (gives : R → List ℕ → ReadEnd → Type 0) (question : Question) (plan : Plan)
     (readers : List R) (number : ℕ) (said : List SaidChange) : Type 0 where
   pub peer : Peer
@@ -88,19 +88,19 @@ pub record AreWhole {R : Type 0} (gives : R → List ℕ → ReadEnd → Type 0)
   pub reader_is : slice_get readers number ≡ Some reader
   pub whole : IsSaidWhole gives question (id_of peer) reader said
 
--- what happens by the recorded file of a peer, no read having failed
+-- what happens in the recorded file of a peer, if no read failed
 abbrev pub AreHappeningsOf : {R : Type 0} → (R → List ℕ → ReadEnd → Type 0) → Question → PeerId → R → ℕ
     → List Happening → Type 0
 AreHappeningsOf gives question peer reader number all =
     (said : List SaidChange) × IsSaidWhole gives question peer reader said
     × (contents_of all ≡ happened_in question number said)
 
--- when a thing happened, to be ordered by: in microseconds since 1970
+-- the moment by which things that happened are ordered, in microseconds since 1970
 abbrev pub ordered_by : Happening → ℕ
 ordered_by one = in_microseconds (happened_at one)
 
--- what happened on the prefix by the recorded files of all peers, in the order of time; what is of one moment
--- stays in the order of the peers, and then of the file
+-- What happened on the prefix in the recorded files of all peers, in the order of time. Things of one moment stay in
+-- the order of the peers, and those of one peer in the order of its file.
 pub record AreHappenings {R : Type 0} (gives : R → List ℕ → ReadEnd → Type 0) (question : Question) (plan : Plan)
     (readers : List R) (all : List Happening) : Type 0 where
   pub files : List (List SaidChange)

@@ -1,4 +1,4 @@
--- The recorded sessions of all peers, and what is heard of each.
+-- The recorded sessions of all peers, and what was read of each.
 use Rattle.std.specs.Prelude.{◌≡◌, ℕ, ◌<◌, List, Result, Ok, Err, Some, slice_get}
 use Rattle.rs_choice.specs.Plan.{Peer, Plan}
 use Rattle.rs_table.specs.Content.{TablesContent, rib_of}
@@ -9,7 +9,7 @@ use Rattle.rs_glass.specs.declared.hearing.Heard.{Heard}
 use Rattle.rs_glass.specs.declared.recording.Recording.{Recording}
 use Rattle.rs_glass.specs.declared.said.Said.{Said}
 
--- the recorded session of the peer of a number
+-- the recorded session of the peer that has this number
 pub record IsRecording {R : Type 0} (plan : Plan) (readers : List R) (number : ℕ) (one : Recording R) : Type 0 where
   pub number_is : one.peer ≡ number
   pub peer : Peer
@@ -21,7 +21,7 @@ abbrev pub AreRecordings : {R : Type 0} → Plan → List R → List (Recording 
 AreRecordings {R} plan readers all =
     (number : ℕ) (one : Recording R) → slice_get all number ≡ Some one → IsRecording plan readers number one
 
--- the peer of a number holds the routes that were heard of it, and this was heard of it
+-- the tables have the routes that were read of this peer, and the answer is what was read of it
 pub record IsHeard (all : List (Result Heard GlassFault)) (number : ℕ) (tables : TablesContent) (said : Said)
     : Type 0 where
   pub heard : Heard
@@ -33,7 +33,7 @@ abbrev pub AreHeard : List (Result Heard GlassFault) → ℕ → TablesContent �
 AreHeard all count tables said =
     (number : ℕ) → number < count → (one : Said) → slice_get said number ≡ Some one → IsHeard all number tables one
 
--- a fault that was met at some peer, or memory was refused
+-- a fault that was found for some peer, or memory was refused
 abbrev pub IsFaultHeard : List (Result Heard GlassFault) → GlassFault → Type 0
 IsFaultHeard all Memory = Unit {0}
 IsFaultHeard all (Read faulty) = (number : ℕ) × (slice_get all number ≡ Some (Err (Read faulty)))

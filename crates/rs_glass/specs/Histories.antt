@@ -1,4 +1,4 @@
--- The history of a prefix: what happened, and what a client gets after each (RFC 4271, section 9.1).
+-- The history of a prefix: what happened, and the route that a client gets after each step (RFC 4271, section 9.1).
 use Rattle.std.specs.Prelude.{◌≡◌, ◌≢◌, ℕ, ◌==◌, ◌&&◌, nat_lt, Bool, true, false, not, if◌then◌else◌}
 use Rattle.std.specs.Prelude.{List, [], ◌∷◌, ◌++◌, Option, None, Some, filter, length, map}
 use Rattle.std.specs.List.{list_any, range_with_len}
@@ -26,16 +26,16 @@ use Rattle.rs_glass.specs.declared.treated.Treated.{Treated}
 
 -- ---- the tables after what happened
 
--- the changes of one peer among what happened, in their order
+-- the changes of one peer, in their order
 abbrev pub changes_from : ℕ → List Happening → List Change
 changes_from peer happenings = map (λ one. change_of one.word) (filter (λ one. one.peer == peer) happenings)
 
--- the changes up to the first close, with it: nothing behind it counts
+-- the changes up to the first close, and the close; later changes do not count
 abbrev pub up_to_close : List Change → List Change
 up_to_close [] = []
 up_to_close (change ∷ later) = change ∷ (if is_close change then [] else up_to_close later)
 
--- of each peer what its changes leave
+-- the tables that have, for each peer, what its changes leave
 abbrev pub tables_after : Plan → List Happening → TablesContent
 tables_after plan happenings =
     record {
@@ -46,7 +46,7 @@ tables_after plan happenings =
 
 -- ---- what the client gets
 
--- an event, without where its attributes lie in memory
+-- an event as a value
 pub data EventContent : Type 0 where
   Announcement : PathAttributes → EventContent
   Withdrawal : EventContent
@@ -61,7 +61,7 @@ event_content (events.Treated fault) = TreatmentFor fault
 event_content (events.Lost loss) = LossOf loss
 event_content (events.Closed reason) = CloseFor reason
 
--- a withdrawal by the peer, or an UPDATE at fault that is treated so
+-- a withdrawal by the peer, or an UPDATE at fault that is treated as one
 abbrev pub withdrawal_by : Option Cause → EventContent
 withdrawal_by None = Withdrawal
 withdrawal_by (Some (causes.Lost loss)) = Withdrawal
@@ -74,7 +74,7 @@ event_of (Withdrawn prefix) cause = withdrawal_by cause
 event_of Lost cause = LossOf (loss_of_cause cause)
 event_of (Closed reason) cause = CloseFor reason
 
--- an event and what the client gets from then on
+-- an event, and the route that the client gets from then on
 pub record GetsContent : Type 0 where
   pub time : ℕ
   pub microseconds : Option ℕ
@@ -92,11 +92,11 @@ gets_content gets =
       best = gets.best;
     }
 
--- the number of the peer whose route the client gets, where one is asked for
+-- the number of the peer whose route the client gets, if a client is asked for
 abbrev pub best_for : TablesContent → Option ℕ → IpPrefix → Option ℕ
 best_for tables client prefix = option_and_then (λ client. best_from tables client prefix) client
 
--- where what happened counts, what the client gets by the tables behind it
+-- the event and the client's route by the tables after it, if the event counts
 abbrev pub gets_by : Bool → TablesContent → Option ℕ → IpPrefix → Happening → Option GetsContent
 gets_by false tables client prefix one = None
 gets_by true tables client prefix one =
@@ -108,28 +108,28 @@ gets_by true tables client prefix one =
       best = best_for tables client prefix;
     })
 
--- one more thing counts where its peer is there, and its session did not close before
+-- an event counts if its peer is in the plan, and the peer's session did not close before
 abbrev pub counts : Plan → List Happening → Happening → Bool
 counts plan before one =
     nat_lt one.peer (length plan.peers) && not (list_any is_close (changes_from one.peer before))
 
 module _ (plan : Plan) (client : Option ℕ) (prefix : IpPrefix) where
-  -- what the client gets after one more thing
+  -- the client's route after one more event
   abbrev pub gets_after : List Happening → Happening → Option GetsContent
   gets_after before one =
       gets_by (counts plan before one) (tables_after plan (before ++ one ∷ [])) client prefix one
 
-  -- and after each of a list
+  -- the client's route after each event of a list
   abbrev pub all_gets : List Happening → List GetsContent
   all_gets happenings = each_behind (λ before one. option_to_list (gets_after before one)) [] happenings
 
 -- ---- one step
 
--- a peer is there, and its session open
+-- a peer is in the plan, and its session is open
 abbrev pub is_open : TablesContent → ℕ → Bool
 is_open tables peer = nat_lt peer (length tables.plan.peers) && not (rib_of tables peer).closed
 
--- tables take what happened to one peer, and all others stay
+-- the tables take an event of one peer; all other peers stay as they are
 pub record Takes (old : TablesContent) (one : Happening) (new : TablesContent) : Type 0 where
   pub routes : BecomeBy (rib_of old one.peer).routes (change_of one.word) (rib_of new one.peer).routes
   pub closed : (rib_of new one.peer).closed ≡ is_close (change_of one.word)
@@ -143,17 +143,18 @@ TakesIf true old one new = Takes old one new
 
 -- ---- the history
 
--- a time is before another, where that is given
+-- a time is before the other one, if that is given
 abbrev pub is_before : ℕ → Option ℕ → Bool
 is_before time None = false
 is_before time (Some from) = nat_lt time from
 
--- what the client gets after the last of these, or else as before
+-- the client's route after the last of these events, or else the one before
 abbrev pub best_last : Option ℕ → List GetsContent → Option ℕ
 best_last before [] = before
 best_last before (gets ∷ later) = best_last gets.best later
 
--- what is asked stays; of what the client gets, that from the time on is shown, and the last before it is told
+-- The question stays the same. Of the client's routes, those from the given time on are listed, and the last one
+-- before it is noted.
 pub record Notes (asked : History) (all : List GetsContent) (history : History) : Type 0 where
   pub prefix : history.prefix ≡ asked.prefix
   pub client : history.client ≡ asked.client
@@ -162,7 +163,7 @@ pub record Notes (asked : History) (all : List GetsContent) (history : History) 
       ≡ map gets_content asked.events.items ++ filter (λ gets. not (is_before gets.time asked.from)) all
   pub before : history.before ≡ best_last asked.before (filter (λ gets. is_before gets.time asked.from) all)
 
--- the history of what happened: it notes what the client gets after each thing
+-- the history of what happened: it notes the client's route after each event
 abbrev pub IsHistory : Plan → List Happening → History → History → Type 0
 IsHistory plan happenings asked history =
     Notes asked (all_gets plan asked.client asked.prefix happenings) history

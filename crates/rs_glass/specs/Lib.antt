@@ -10,7 +10,7 @@ pub mod Moments  -- seconds and microseconds in their order
 pub mod FileSaid  -- what a file says, and by which record
 pub mod Happened  -- what happens on a prefix
 pub mod Histories  -- what a client gets after each
--- What reading keeps:
+-- What is kept while files are read:
 pub mod Listed  -- what happened so far in a file
 pub mod Heard  -- what is heard of each peer
 pub mod RoutesLeftView  -- the announcements that still count, by their fields

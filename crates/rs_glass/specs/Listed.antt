@@ -1,4 +1,4 @@
--- What happened on a prefix in the file of a peer, as far as it is read (our choice: record by record).
+-- What happened on a prefix in the file of a peer, as far as the file was read (our choice: record by record).
 use Rattle.std.specs.Prelude.{◌≡◌, ℕ, Bool, true, false, List, [], ◌∷◌, ◌++◌, Option, Some}
 use Rattle.rs_update.specs.declared.errors.Errors.{Errors}
 use Rattle.rs_mrt.specs.Record.{MrtRecord}
@@ -18,20 +18,20 @@ use Rattle.rs_glass.specs.declared.fault.GlassFault.TheVariants.{Memory, Read}
 use Rattle.rs_glass.specs.declared.listing.Listing.{Listing}
 use Rattle.rs_glass.specs.declared.question.Question.{Question}
 
--- what happened by these changes is listed, and a change behind them counts no earlier than the latest moment
+-- what happened by these changes is listed, and a later change counts no earlier than the latest moment
 pub record IsListing (question : Question) (peer : ℕ) (said : List SaidChange) (listing : Listing) : Type 0 where
   pub question_is : listing.question ≡ question
   pub peer_is : listing.peer ≡ peer
   pub latest : (next : SaidChange) → counts_at said next ≡ later_of listing.latest (moment_of next)
   pub lists : contents_of listing.all.items ≡ happened_in question peer said
 
--- a listing takes these changes behind all before
+-- the listing takes these changes, after all earlier ones
 abbrev pub Lists : Listing → List SaidChange → Listing → Type 0
 Lists old more new =
     (question : Question) (peer : ℕ) (said : List SaidChange) → IsListing question peer said old
     → IsListing question peer (said ++ more) new
 
--- a session goes on after a record, unless that ends it; no record says by itself that records can't be read
+-- a session goes on after a record, unless the record ends it; no record can say that records cannot be read
 abbrev pub GoesOnBy : RecordEffect → Bool → Type 0
 GoesOnBy PassesOver goes_on = goes_on ≡ true
 GoesOnBy (Gives changes) goes_on = goes_on ≡ true
@@ -45,7 +45,7 @@ module _ {S : Type 0} (comes : Comes S) (errors : Errors) (peer : PeerId) (old n
     pub goes_on : ends (effect_of errors peer next) ≡ false
     pub lists : Lists before (said_of errors peer next) after
 
-  -- the close of the session is taken, for another reason than a failed read
+  -- the close of the session is taken, for a reason other than a failed read
   pub record TakesClose : Type 0 where
     pub records : List MrtRecord
     pub end : Option SourceFault
@@ -61,7 +61,7 @@ module _ {S : Type 0} (comes : Comes S) (errors : Errors) (peer : PeerId) (old n
   TakesNext true = TakesRecord
   TakesNext false = TakesClose
 
--- nothing is taken since a read failed, or memory was refused
+-- no record is taken, because a read failed or memory was refused
 abbrev pub FailsNext : {S : Type 0} → Comes S → S → ℕ → GlassFault → Type 0
 FailsNext comes old peer Memory = Unit {0}
 FailsNext comes old peer (Read faulty) = (faulty ≡ peer) × comes old [] (Some faults.Read)

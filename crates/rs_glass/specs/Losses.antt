@@ -1,4 +1,4 @@
--- How a session was lost: the record that says so (RFC 4271, sections 4.5 and 8.2.2; RFC 6396, section 4.4).
+-- How a session was lost: the record that shows it (RFC 4271, sections 4.5 and 8.2.2; RFC 6396, section 4.4).
 use Rattle.std.specs.Prelude.{ℕ, ◌==◌, if◌then◌else◌, List, [], ◌∷◌, drop, Option, None, Some, Result, Ok, Err}
 use Rattle.rs_mrt.specs.Entry.{Meaning, Message, State, Other, entry_of}
 use Rattle.rs_mrt.specs.Record.{MrtRecord}
@@ -15,12 +15,13 @@ notified [] = None
 notified (code ∷ []) = None
 notified (code ∷ subcode ∷ rest) = Some (losses.Notification code subcode)
 
--- a change of state to a new state; to 0, which is no state, the loss was put in, since other records show it
+-- A change of state to a new state. If the new state is 0, which is not a state, the loss was inserted, since other
+-- records show it.
 abbrev pub changed : ℕ → Loss
 changed new = if new == 0 then losses.Inferred else losses.State new
 
--- a session is lost by a change of state to the new state, or by a NOTIFICATION; a shorter message, another
--- record or one at fault says nothing of a loss
+-- A session is lost by a change of state to the new state, or by a NOTIFICATION. A message that is too short,
+-- another record or a record at fault shows no loss.
 abbrev pub loss_told : Result Meaning MrtFault → Option Loss
 loss_told (Ok (Message peer_as peer message)) = notified (drop code_place message)
 loss_told (Ok (State peer_as peer old new)) = Some (changed new)

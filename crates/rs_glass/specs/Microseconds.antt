@@ -8,8 +8,8 @@ use Rattle.rs_mrt.specs.Record.{MrtRecord}
 abbrev pub a_second : ℕ
 a_second = 1000000
 
--- The Microsecond Timestamp: the number in the first four octets of the body, of a record of Type BGP4MP_ET. Our
--- choice: a number that isn't below a second tells no microseconds.
+-- The Microsecond Timestamp: the number in the first four octets of the body of a record of Type BGP4MP_ET. Our
+-- choice: a number that is not less than a second counts as no microseconds.
 abbrev pub microseconds_in : MrtRecord → Option ℕ
 microseconds_in r =
     if (r.kind == type_bgp4mp_et) && nat_le microseconds_len (length r.body)

@@ -1,4 +1,4 @@
--- What the recorded session of a peer says of a prefix.
+-- The recorded session of a peer, as far as a prefix is concerned.
 use Rattle.std.specs.Prelude.{◌≡◌, ◌↔◌, ◌<◌, ◌==◌, ◌||◌, ℕ, Bool, true, false, if◌then◌else◌, List, reverse}
 use Rattle.std.specs.Prelude.{Option, None, Some, slice_get}
 use Rattle.std.specs.FinMap.{get}
@@ -27,14 +27,14 @@ use Rattle.rs_glass.specs.declared.fault.GlassFault.TheVariants.{Memory, Read}
 use Rattle.rs_glass.specs.declared.question.Question.{Question}
 use Rattle.rs_glass.specs.declared.said.Said.{Said}
 
--- these are all changes that the session of a peer says by what its reader gives: those of a file that the reader may
--- give, or those before a failed read, with the close that says so
+-- All changes of a peer's session by what its reader gives: those of a file that the reader may give. Or those
+-- before a failed read, with the close that says so.
 pub record AreChangesOf {R : Type 0} (gives : R → List ℕ → ReadEnd → Type 0) (question : Question) (peer : PeerId)
     (reader : R) (changes : List Change) : Type 0 where
   pub passed : ℕ
   pub says : IsRead gives question.errors peer reader changes passed
 
--- why the session closed that says these changes: the reason of the last close among them, if there is one
+-- why a session with these changes closed: the reason of the last close among them, if there is one
 abbrev pub body_reason : ChangeBody → Option Reason
 body_reason (Announced prefix attributes) = None
 body_reason (Withdrawn prefix) = None
@@ -44,23 +44,25 @@ body_reason (Closed reason) = Some reason
 abbrev pub close_in : List Change → Option Reason
 close_in changes = option_and_then (λ change. body_reason change.body) (find is_close (reverse changes))
 
--- the same with one change more
+-- why the session closed, after one more change
 abbrev pub close_after : Option Reason → ChangeBody → Option Reason
 close_after before (Announced prefix attributes) = before
 close_after before (Withdrawn prefix) = before
 close_after before Lost = before
 close_after before (Closed reason) = Some reason
 
--- a close says that a read failed
+-- the close says that a read failed
 abbrev pub is_failed_read : Option Reason → Bool
 is_failed_read close = option_map_or is_read close false
 
--- a fault is that of a record which is cut short by the end of its file (RFC 6396, section 2): there is no whole record
+-- the fault is that of a record which the end of its file cuts short (RFC 6396, section 2); then there is no whole
+-- record
 abbrev pub is_cut : ℕ → Bool
 is_cut number = (number == number_of HeaderCutShort) || (number == number_of BodyCutShort)
 
--- when a route was announced, where it is there, or when it was taken away: a close for a record at fault has the time
--- of the record; one for a record that is cut short has no time, and a route that was never announced has none
+-- When a route was announced, if it is there, or when it was removed. A close because of a record at fault has the
+-- time of the record. A close because of a record that is cut short has no time, and neither has a route that was
+-- never announced.
 abbrev pub ended_at : ℕ → EndedBy → Option ℕ
 ended_at time (ended.Close (reasons.Mrt number)) = if is_cut number then None else Some time
 ended_at time by = Some time
@@ -70,31 +72,32 @@ time_of last.NeverAnnounced = None
 time_of (last.Announced time) = Some time
 time_of (last.Ended announced ending) = ended_at ending.time ending.by
 
--- this is said of a prefix by changes: what they say of it last, and why their session closed
+-- the answer for a prefix by some changes: the last changes on the prefix, and why the session closed
 pub record IsSaid (prefix : IpPrefix) (changes : List Change) (said : Said) : Type 0 where
   pub last : IsSaidLast prefix changes said.last
   pub close : said.close ≡ close_in changes
 
--- this is said of a prefix by changes, and on each prefix that covers it they leave these routes
+-- the answer for a prefix by some changes; on each prefix that covers it, they leave these routes
 pub record AreTold (prefix : IpPrefix) (changes : List Change) (routes : Routes) (said : Said) : Type 0 where
   pub is_said : IsSaid prefix changes said
   pub left_on : (wide : IpPrefix) → covers wide prefix ≡ true → (route : RouteLeft)
       → Leaves changes wide route ↔ (get routes wide ≡ Some route)
 
--- what the recorded session of a peer says of the prefix that is asked for, or its changes before a failed read
+-- the answer for the prefix that is asked for by the recorded session of a peer, or by its changes before a failed
+-- read
 abbrev pub IsSaidBefore : {R : Type 0} → (R → List ℕ → ReadEnd → Type 0) → Question → PeerId → R → Routes → Said
     → Type 0
 IsSaidBefore gives question peer reader routes said =
     (changes : List Change) × AreChangesOf gives question peer reader changes
     × AreTold question.prefix changes routes said
 
--- what the recorded session of a peer says of the prefix that is asked for, no read having failed
+-- the answer for the prefix that is asked for by the recorded session of a peer, if no read failed
 abbrev pub IsSaidOf : {R : Type 0} → (R → List ℕ → ReadEnd → Type 0) → Question → PeerId → R → Routes → Said
     → Type 0
 IsSaidOf gives question peer reader routes said =
     IsSaidBefore gives question peer reader routes said × (is_failed_read said.close ≡ false)
 
--- the recorded session of a peer closes at a failed read
+-- the recorded session of a peer closes because of a failed read
 abbrev pub ClosesUnread : {R : Type 0} → (R → List ℕ → ReadEnd → Type 0) → Question → PeerId → R → Type 0
 ClosesUnread gives question peer reader =
     (changes : List Change) × AreChangesOf gives question peer reader changes
@@ -107,11 +110,11 @@ IsFaultOf gives question peer reader number Memory = Unit {0}
 IsFaultOf gives question peer reader number (Read faulty) =
     (faulty ≡ number) × ClosesUnread gives question peer reader
 
--- who a peer is in a recording
+-- the address and the AS number by which a recording identifies a peer
 abbrev pub id_of : Peer → PeerId
 id_of peer = record { address = peer.address; asn = peer.asn }
 
--- this is said of the peers below a number, and held of them, each by its own recorded session
+-- the answers for the peers below a number, and their routes in the tables, each by the peer's own recorded session
 abbrev pub AreSaidOf : {R : Type 0} → (R → List ℕ → ReadEnd → Type 0) → Question → Plan → List R → ℕ
     → TablesContent → List Said → Type 0
 AreSaidOf {R} gives question plan readers count tables all =
@@ -120,7 +123,7 @@ AreSaidOf {R} gives question plan readers count tables all =
     → (said : Said) → slice_get all number ≡ Some said
     → IsSaidOf gives question (id_of peer) reader (rib_of tables number).routes said
 
--- a fault of the readers: a read of the one that is named failed, or memory was refused
+-- a fault of the readers: a read of the named peer's file failed, or memory was refused
 abbrev pub IsFaultAmong : {R : Type 0} → (R → List ℕ → ReadEnd → Type 0) → Question → Plan → List R → GlassFault
     → Type 0
 IsFaultAmong gives question plan readers Memory = Unit {0}

@@ -27,7 +27,7 @@ pub struct Answers {
     pub best: Option<usize>,
     /// An answer for each peer, in the order of the peers, the client itself included.
     pub peers: Vec<Answer>,
-    /// Where no peer has a route on the prefix: the longest prefix that covers it and on which one has, if any.
+    /// If no peer has a route on the prefix: the longest prefix that covers it and on which one has, if any.
     pub less_specific: Option<LessSpecific>,
 }
 
@@ -51,8 +51,6 @@ pub struct LessSpecific {
 
 /// Answers, of what recorded sessions say, why the client of number `client` has each peer's route on the
 /// prefix, or not.
-///
-/// Fails where memory is refused.
 pub fn explain_all(
     alloc: Global,
     reading: &Reading,
@@ -105,7 +103,7 @@ pub(crate) fn best_from(tables: &Tables, client: usize, prefix: Prefix) -> Optio
     }
 }
 
-// The longest prefix that covers another and on which some peer has a route, where that isn't the other itself.
+// The longest prefix that covers another and on which some peer has a route, if that isn't the other itself.
 fn less_specific(tables: &Tables, client: usize, prefix: Prefix) -> Option<LessSpecific>
     ensures { IsLessSpecific tables.now client prefix result }
 {
@@ -119,7 +117,7 @@ fn less_specific(tables: &Tables, client: usize, prefix: Prefix) -> Option<LessS
     })
 }
 
-/// The longest prefix that covers another, which may be itself, and on which some peer has a route; none where there is
+/// The longest prefix that covers another, which may be itself, and on which some peer has a route; none if there is
 /// no such prefix.
 pub fn longest_announced(tables: &Tables, prefix: Prefix) -> Option<Prefix>
     ensures { MatchOption result (NoneIsHeld tables.now.ribs prefix) (IsLongestHeld tables.now.ribs prefix) }

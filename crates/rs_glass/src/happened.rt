@@ -1,6 +1,6 @@
 //! What happened on a prefix: the changes on it and the losses and closes of all peers, in the order of time.
 //!
-//! Each peer's file is read on a thread of its own, where the system grants one.
+//! Each peer's file is read on a thread of its own, if the system grants one.
 
 ghost use Rattle.std.specs.Prelude.{◌≡◌, ◌+◌, ◌<◌, ◌≤◌, true, All, IfErr, IfOk, length};
 ghost use Rattle.rs_glass.specs.Happened.{AreHappenings, AreHappeningsOf, happened_at};
@@ -26,10 +26,10 @@ use std::thread::Threads;
 pub struct Happening {
     /// The number of the peer.
     pub peer: usize,
-    /// When it counts, in seconds since 1970: its own time, but no earlier than anything before it in its file.
-    /// A close at the end of a file has no time of its own, and counts at the latest time before it.
+    /// When it counts, in seconds since 1970: at its own time, but no earlier than anything before it in its file. A
+    /// close at the end of a file has no time of its own, and counts at the latest time before it.
     pub time: u32,
-    /// The microseconds of that time, where they are known.
+    /// The microseconds of that time, if they are known.
     pub microseconds: Option<u32>,
     /// What changed.
     pub word: Word,
@@ -49,11 +49,11 @@ impl Happening {
     }
 }
 
-/// What happened on the prefix, of all peers, in the order of time, to the microsecond where that is known. What is of
-/// one time comes by the peers in their order, and then in the order of the file. `readers` gives the recorded file of
-/// each peer.
+/// What happened on the prefix, of all peers, in the order of time, to the microsecond if that is known. Things of
+/// one moment come in the order of the peers, and those of one peer in the order of the file. `readers` gives the
+/// recorded file of each peer.
 ///
-/// Fails where memory is refused, and where a session closes because its file can't be read.
+/// Fails if memory is refused, or if a session closes because its file can't be read.
 pub fn read_happenings<T: Threads + Sync, R: Read + Send + Drop>(
     rt: &T,
     alloc: Global,

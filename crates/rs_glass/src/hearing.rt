@@ -50,8 +50,9 @@ pub(crate) fn hear<R: Read + Drop>(
     Ok(heard)
 }
 
-// The same, a failed read being the reason of the close. Changes that don't concern the prefix are passed over:
-// they leave what is said of it and held on those that cover it.
+// Reads the recorded session of a peer; a failed read is then the reason of the close. Changes that don't concern
+// the prefix are passed over. They change neither the answer for the prefix nor the routes on prefixes that cover
+// it.
 fn hear_changes<R: Read + Drop>(
     alloc: Global,
     id: PeerId,
@@ -96,7 +97,7 @@ fn cause_shown<R: Read>(
     }
 }
 
-// Takes one change where it concerns the prefix.
+// Takes one change if it concerns the prefix.
 fn take_change(routes: &mut RoutesLeft, prefix: Prefix, word: Word) -> Result<(), AllocError>
     ensures { OnOk result (routes.new
         ≡ (if concerns prefix (change_of word) then after routes.old (change_of word) else routes.old)) }

@@ -29,7 +29,7 @@ pub enum Event {
     /// The peer announced the prefix in an UPDATE with this fault, which is treated as a withdrawal of its routes (RFC
     /// 7606, section 2).
     Treated(Treated),
-    /// The session was lost, in this way; none where the record says nothing of it.
+    /// The session was lost, in this way; none if the record says nothing of it.
     Lost(Option<Loss>),
     /// The session closed, for this reason.
     Closed(Reason),
@@ -40,13 +40,13 @@ pub enum Event {
 pub struct Gets {
     /// When it counts, in seconds since 1970.
     pub time: u32,
-    /// The microseconds of that time, where they are known.
+    /// The microseconds of that time, if they are known.
     pub microseconds: Option<u32>,
     /// The number of the peer.
     pub peer: usize,
     /// What happened.
     pub event: Event,
-    /// The number of the peer whose route the client gets from then on, if any; none where no client is asked for.
+    /// The number of the peer whose route the client gets from then on, if any; none if no client is asked for.
     pub best: Option<usize>,
 }
 
@@ -55,9 +55,9 @@ pub struct Gets {
 pub struct History {
     /// The prefix.
     pub prefix: Prefix,
-    /// The number of the client, where one is asked for.
+    /// The number of the client, if one is asked for.
     pub client: Option<usize>,
-    /// From when on changes are shown, in seconds since 1970, where that was asked for.
+    /// From when on changes are shown, in seconds since 1970, if that was asked for.
     pub from: Option<u32>,
     /// The number of the peer whose route the client gets before what is shown, if any.
     pub before: Option<usize>,
@@ -88,10 +88,8 @@ impl History {
     }
 }
 
-/// Goes through what happened, one after another, and tells what the client gets after each. What happened before
-/// `from` counts and isn't shown; nothing of a peer that isn't there, or behind its close, counts.
-///
-/// Fails where memory is refused.
+/// Goes through what happened, one event after another, and says what the client gets after each. Events before
+/// `from` count and aren't shown. Events of a peer that isn't there, or behind its close, don't count.
 pub fn fill_history(
     alloc: Global,
     plan: &Arc<Exchange>,
@@ -122,8 +120,8 @@ fn go_on(tables: &mut Tables, history: &mut History, happening: Happening) -> Re
     }
 }
 
-// Takes what happened, and tells what the client gets from then on; nothing of a peer that isn't there, or
-// behind its close.
+// Takes an event, and says what the client gets from then on. Events of a peer that isn't there, or behind its
+// close, don't count.
 fn take(
     tables: &mut Tables,
     client: Option<usize>,
@@ -163,7 +161,7 @@ fn is_open(tables: &Tables, peer: usize) -> bool
     peer < tables.count() && !tables.is_closed(peer)
 }
 
-// The peer whose route the client gets on a prefix, where a client is asked for.
+// The peer whose route the client gets on a prefix, if a client is asked for.
 fn best_for(tables: &Tables, client: Option<usize>, prefix: Prefix) -> Option<usize>
     ensures { result ≡ best_for tables.now client prefix }
 {
@@ -185,7 +183,7 @@ fn note(history: &mut History, gets: Gets) -> Result<(), AllocError>
     Ok(())
 }
 
-// Whether a time is before another, where that is given.
+// Whether a time is before another, if that is given.
 fn is_before(time: u32, from: Option<u32>) -> bool
     ensures { result ≡ is_before time from }
 {

@@ -13,6 +13,8 @@
 //! answers: `answers`. Time: `microseconds` (of a record), `moment` (which one is later). The history: `listing` (what
 //! happened by one file), `happened` (by all, in the order of time), `history` (what a client gets after each event).
 //! Faults: `fault`.
+//!
+//! A call that allocates fails if memory is refused.
 #![tactic(auto)]
 
 mod answers;

@@ -28,7 +28,7 @@ pub(crate) struct Listing {
     pub(crate) peer: usize,
     /// What is asked.
     pub(crate) question: Question,
-    /// The latest moment of all changes so far, of those beside the prefix too.
+    /// The latest moment of all changes so far, on the prefix or not.
     pub(crate) latest: Moment,
     /// What happened, in the order of the file.
     pub(crate) all: Vec<Happening>,
@@ -95,7 +95,7 @@ impl Listing {
         Ok(())
     }
 
-    // Takes one change, and lists it where it happens on the prefix.
+    // Takes one change, and lists it if it happens on the prefix.
     fn take(
         &mut self,
         alloc: Global,

@@ -14,7 +14,7 @@ pub enum Loss {
     State(u16),
     /// The peer sent a NOTIFICATION (RFC 4271, section 4.5) with this error code and subcode.
     Notification(u8, u8),
-    /// No record of the peer tells of the loss. It was put in before a record that shows it.
+    /// No record of the peer has the loss. The loss was inserted before a record that shows it.
     Inferred,
 }
 
@@ -37,7 +37,7 @@ const NO_STATE: u16 = 0;
 // Where the error code and subcode stand in a NOTIFICATION (RFC 4271, section 4.5).
 const CODE_AT: usize = 19;
 
-/// How a session was lost, by the record that says so; none where it says something else.
+/// How a session was lost, by the record that says so; none if it says something else.
 pub fn loss_of(recorded: &Record<'_>) -> Option<Loss>
     ensures { result ≡ loss_by (record_of recorded.now) }
 {

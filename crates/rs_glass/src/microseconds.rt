@@ -1,6 +1,6 @@
 //! The microseconds of a record (RFC 6396, section 3).
 //!
-//! Our choice: a number of microseconds that isn't below a second tells nothing.
+//! Our choice: a number that isn't less than a second counts as no microseconds.
 
 ghost use Rattle.std.specs.Prelude.{◌≡◌};
 ghost use Rattle.rs_mrt.specs.Record.{record_of};
@@ -15,7 +15,7 @@ const MICROSECONDS_LEN: usize = 4;
 // How many microseconds a second has.
 pub(crate) const SECOND: u32 = 1_000_000;
 
-/// The microseconds of a record, behind the second of its Timestamp; none where it has none.
+/// The microseconds of a record, behind the second of its Timestamp; none if it has none.
 pub fn microseconds_of(recorded: &Record<'_>) -> Option<u32>
     ensures { result ≡ microseconds_in (record_of recorded.now) }
 {

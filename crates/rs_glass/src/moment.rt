@@ -1,4 +1,4 @@
-//! When something happened: seconds since 1970, and microseconds where a record tells them.
+//! When something happened: seconds since 1970, and microseconds if a record has them.
 
 ghost use Rattle.std.specs.Prelude.{◌≡◌, None};
 ghost use Rattle.rs_glass.specs.Moments.{in_microseconds, later_of};
@@ -10,7 +10,7 @@ use crate::microseconds::SECOND;
 pub(crate) struct Moment {
     /// Seconds since 1970.
     pub(crate) seconds: u32,
-    /// Microseconds behind the beginning of that second, where they are known.
+    /// Microseconds behind the beginning of that second, if they are known.
     pub(crate) microseconds: Option<u32>,
 }
 
@@ -25,7 +25,7 @@ impl Moment {
         }
     }
 
-    // The later one of two; the other one where neither is later.
+    // The later one of two; the other one if neither is later.
     pub(crate) fn or_later(self, other: Moment) -> Moment
         ensures { result ≡ later_of self other }
     {
@@ -36,7 +36,7 @@ impl Moment {
         }
     }
 
-    // In microseconds since 1970; where none are known, as the beginning of its second.
+    // In microseconds since 1970; if none are known, as the beginning of its second.
     pub(crate) fn in_microseconds(self) -> u64
         ensures { result ≡ in_microseconds self }
     {

@@ -1,6 +1,6 @@
 //! Reads the recorded sessions of all peers, and keeps what a prefix needs.
 //!
-//! Each is read on a thread of its own, where the system grants one.
+//! Each session is read on a thread of its own, if the system grants one.
 
 ghost use Rattle.std.specs.Prelude.{◌≡◌, ◌<◌, All, IfErr, IfOk, length};
 ghost use Rattle.rs_glass.specs.Heard.{AreHeard, IsFaultHeard};
@@ -30,7 +30,7 @@ pub struct Reading {
 
 /// Reads the recorded session of each peer: `readers` gives its file, in the order of the peers.
 ///
-/// Fails where memory is refused, and where a session closes because its file can't be read.
+/// Fails if memory is refused, or if a session closes because its file can't be read.
 pub fn read_sessions<T: Threads + Sync, R: Read + Send + Drop>(
     rt: &T,
     alloc: Global,
@@ -51,7 +51,7 @@ pub fn read_sessions<T: Threads + Sync, R: Read + Send + Drop>(
     gather(alloc, plan, heard)
 }
 
-// What was heard of all peers, in their order.
+// What was read of all peers, in their order.
 fn gather(
     alloc: Global,
     plan: &Arc<Exchange>,

@@ -55,7 +55,7 @@ impl RoutesLeft {
         keep(&mut self.announcements, word)
     }
 
-    // Gives them to a peer of tables of which nothing is held. Where memory is refused, it has some of them.
+    // Gives the routes to a peer of tables that has none yet. If memory is refused, the peer has some of them.
     pub(crate) fn put_into(self, tables: &mut Tables, peer: usize) -> Result<(), AllocError>
         requires known { peer < length tables.old.plan.peers }
         requires untouched { rib_of tables.old peer ≡ nothing_held }
@@ -70,7 +70,7 @@ impl RoutesLeft {
     }
 }
 
-// Keeps a change where it announces a route.
+// Keeps a change if it announces a route.
 fn keep(announcements: &mut Vec<Word>, word: Word) -> Result<(), AllocError>
     ensures ok { OnOk result (announcements.new.items
         ≡ announcements.old.items ++ (if announces (change_of word) then word ∷ [] else [])) }

@@ -18,7 +18,7 @@ pub struct Said {
     pub last: LastSaid,
     /// Why the route was taken away, if the record that says so says more than that.
     pub cause: Option<Cause>,
-    /// Why the session closed, where it did.
+    /// Why the session closed, if it did.
     pub close: Option<Reason>,
 }
 
@@ -47,9 +47,9 @@ impl Said {
         }
     }
 
-    /// When the peer's route on the prefix was announced, where it is there, or taken away: in seconds since
-    /// 1970; none where that isn't known. A close for a record at fault has the record's time. A close for a record that
-    /// is cut short by the end of its file has none.
+    /// When the peer's route on the prefix was announced, if it is there, or when it was removed: in seconds since
+    /// 1970; None if that isn't known. A close because of a record at fault has the record's time. A close because
+    /// the end of the file cuts a record short has none.
     pub fn time(&self) -> Option<u32>
         ensures { result ≡ time_of self.now.last }
     {
@@ -71,7 +71,7 @@ fn is_cut(number: u8) -> bool
     number == MrtFault::HeaderCutShort.number() || number == MrtFault::BodyCutShort.number()
 }
 
-// Why the route was taken away: anew where the route was there before a change and not after it.
+// Why the route was removed: this is new if the route was there before a change and not after it.
 fn cause_after(
     before: LastSaid,
     after: LastSaid,

@@ -26,8 +26,8 @@ pub struct Treated {
     pub subcode: u8,
 }
 
-// The fault for which the record's UPDATE is treated as a withdrawal of a prefix that it announces; none if it isn't
-// treated so, or lists the prefix as withdrawn alone. It reads the message up to two times.
+// The fault because of which the record's UPDATE is treated as a withdrawal of a prefix that it announces. None if
+// it isn't treated so, or if it only lists the prefix as withdrawn. It reads the message up to two times.
 pub(crate) fn treated_of(
     alloc: Global,
     errors: Errors,

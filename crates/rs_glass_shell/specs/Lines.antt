@@ -14,8 +14,8 @@ program = codes "looking_glass"
 abbrev pub named : Text → Text
 named text = named_by program text
 
--- the line of each reason; of help, the version and a refused command line the text of `clap`; none if a reader closed
--- its pipe
+-- The line for each reason. For help, the version and a refused command line it is the text of `clap`; there is none
+-- if a reader closed its pipe.
 abbrev pub line_of : Unanswered → Text
 line_of (Words fault) = words_text program fault
 line_of (Setup fault) = setup_line program fault

@@ -1,4 +1,4 @@
--- The statuses with which the program ends where a question isn't answered (docs/LOOKING_GLASS.md, "Statuses and
+-- The statuses with which the program ends if a question isn't answered (docs/LOOKING_GLASS.md, "Statuses and
 -- texts").
 use Rattle.std.specs.Prelude.{ℕ, ◌==◌, Bool, if◌then◌else◌}
 use Rattle.rs_glass_shell.specs.declared.unanswered.Unanswered.{Unanswered}
@@ -9,7 +9,7 @@ use Rattle.rs_host.specs.Status.{done, failed, out_of_memory, refused, setup_sta
 use Rattle.rs_host.specs.declared.unready.Unready.{Unready}
 use Rattle.rs_host.specs.declared.unready.Unready.TheVariants as unready
 
--- the status of each way to stop short
+-- the status for each reason why there is no answer
 abbrev pub status_of : Unanswered → ℕ
 status_of (Words fault) = words_status fault
 status_of (Setup fault) = setup_status fault
@@ -23,14 +23,15 @@ status_of Closed = done
 status_of Output = failed
 status_of Memory = out_of_memory
 
--- and of `diff`, where the status of what is refused says that something differs
+-- the status of `diff` for each reason; a refusal has another status there, since the usual one means that something
+-- differs
 abbrev pub diff_status_of : Unanswered → ℕ
 diff_status_of unanswered = if status_of unanswered == refused then failed else status_of unanswered
 
 abbrev pub status_in : Bool → Unanswered → ℕ
 status_in of_diff unanswered = if of_diff then diff_status_of unanswered else status_of unanswered
 
--- what isn't ready before an answer, as a reason for which there is none
+-- the reason why there is no answer, if something isn't ready
 abbrev pub unanswered_by : Unready → Unanswered
 unanswered_by (unready.Setup fault) = Setup fault
 unanswered_by (unready.Unread path) = Unread path

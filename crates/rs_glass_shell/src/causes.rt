@@ -13,8 +13,8 @@ use std::io::ErrorKind;
 // What a line says of a path that names a folder.
 const FOLDER: &str = "is a folder";
 
-/// The line that says why a question isn't answered, as `line` gives it. Behind the path of a file that can't be read or
-/// written it says why, if that can be seen. Fails where memory is refused.
+/// The line that says why a question isn't answered, as `line` gives it. Behind the path of a file that can't be
+/// read or written it says why, if that can be seen.
 pub fn line_with_cause<R: AllocGlobal + Files>(
     rt: &R,
     unanswered: &Unanswered,

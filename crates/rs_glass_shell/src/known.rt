@@ -94,9 +94,9 @@ impl Known {
     }
 }
 
-/// What is known of the recorded files of an exchange that were read, with these losses, while these outlines were made.
-/// If losses are inferred, the file of each peer is read once more whose session is asked for, and only these are known.
-/// Fails if memory is refused.
+/// What is known of the recorded files of an exchange that were read, with these losses, while these outlines were
+/// made. If losses are inferred, the file of each peer is read once more whose session is asked for, and only these
+/// are known.
 pub fn known_of<R: AllocGlobal + Files>(
     rt: &R,
     setup: &Setup,
@@ -117,7 +117,7 @@ pub fn known_of<R: AllocGlobal + Files>(
     Ok(Known { sessions, notes })
 }
 
-/// What is known of the session of each peer, in their order, where it is known what the files hold. The rest is as of
+/// What is known of the session of each peer, in their order, if it is known what the files hold. The rest is as of
 /// `known_of`.
 pub fn sessions_of<R: AllocGlobal + Files>(
     rt: &R,
@@ -170,8 +170,8 @@ fn inferred_session<R: AllocGlobal + Files>(
     }
 }
 
-// What the file at a path holds within bounds, with the losses of a peer inferred; none if it may give its octets only
-// once, or can't be read.
+// The content of the file at a path within bounds, with the losses of a peer inferred. None if the file may give its
+// octets only once, or can't be read.
 fn inferred_at<R: AllocGlobal + Files>(
     rt: &R,
     path: &str,

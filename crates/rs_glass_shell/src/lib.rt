@@ -7,6 +7,8 @@
 //! `writing` (a file that is written whole). `names`, `reasons` and `route_text` (texts). `reason_fields` and
 //! `route_fields` (fields of rows). `toml_text` (TOML). `shell_words` (words of
 //! a command).
+//!
+//! A call that allocates fails if memory is refused.
 #![tactic(auto)]
 
 mod built;

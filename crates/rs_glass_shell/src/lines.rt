@@ -12,9 +12,9 @@ use std::alloc::{AllocError, Global};
 /// The program's name, as its lines begin.
 pub const PROGRAM: &str = "looking_glass";
 
-/// The line that says why a question isn't answered, without a line break at its end; for help and a refused command
-/// line the whole text. If a reader closed its pipe, it is empty. Control characters in a key, a name or a path are
-/// escaped, so that the line stays one. Fails if memory is refused.
+/// The line that says why a question isn't answered, without a line break at its end. For help and a refused command
+/// line it is the whole text. If a reader closed its pipe, it is empty. Control characters in a key, a name or a
+/// path are escaped, so that the text stays one line.
 pub fn line(alloc: Global, unanswered: &Unanswered) -> Result<String, AllocError>
     ensures { IfOk result (λ line. string_bytes line ≡ line_of unanswered.now) }
 {

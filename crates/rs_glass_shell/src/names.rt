@@ -8,7 +8,7 @@ use std::alloc::{AllocError, Global};
 use std::fmt;
 use std::net::Ipv4Addr;
 
-/// The name of the peer of a number; none where there is no such peer.
+/// The name of the peer of a number; none if there is no such peer.
 pub fn name_at(plan: &Exchange, number: usize) -> &str {
     if number < plan.count() {
         plan.peer(number).name.as_str()
@@ -17,7 +17,7 @@ pub fn name_at(plan: &Exchange, number: usize) -> &str {
     }
 }
 
-/// The AS number of the peer of a number; 0 where there is no such peer.
+/// The AS number of the peer of a number; 0 if there is no such peer.
 pub fn asn_at(plan: &Exchange, number: usize) -> u32 {
     if number < plan.count() {
         plan.peer(number).asn
@@ -46,7 +46,7 @@ impl fmt::Display for PrefixText {
     }
 }
 
-/// The names of peers, with commas between them. Fails where memory is refused.
+/// The names of peers, with commas between them.
 pub fn names_text(alloc: Global, plan: &Exchange, peers: &[usize]) -> Result<String, AllocError> {
     let mut text = String::new(alloc);
     for (place, peer) in peers.iter().enumerate() {
@@ -58,7 +58,7 @@ pub fn names_text(alloc: Global, plan: &Exchange, peers: &[usize]) -> Result<Str
     Ok(text)
 }
 
-/// Adds what a client gets on a prefix: `b (AS 64502) gets no route to 192.0.2.0/24`. Fails where memory is refused.
+/// Adds what a client gets on a prefix: `b (AS 64502) gets no route to 192.0.2.0/24`.
 pub fn add_gets(
     text: &mut String,
     plan: &Exchange,
@@ -90,7 +90,7 @@ pub fn peer_name(plan: &Exchange, peer: Option<usize>) -> Option<&str> {
 // How many peers a line names.
 const NAMED: usize = 8;
 
-/// Adds that the session of a peer is down. Fails where memory is refused.
+/// Adds that the session of a peer is down.
 pub fn add_down(
     text: &mut String,
     plan: &Exchange,
@@ -107,8 +107,7 @@ pub fn add_down(
     }
 }
 
-/// Which sessions are down, the first eight by name; none if no session is known to be down. Fails where memory is
-/// refused.
+/// Which sessions are down, the first eight by name; none if no session is known to be down.
 pub fn downs_text(
     alloc: Global,
     plan: &Exchange,
@@ -132,8 +131,7 @@ pub fn downs_text(
     Ok(if count == 0 { None } else { Some(text) })
 }
 
-/// Adds that the session of a route's sender began again at a time, in seconds since 1970, behind the route. Fails where
-/// memory is refused.
+/// Adds that the session of a route's sender began again at a time, in seconds since 1970, behind the route.
 pub fn add_again(text: &mut String, again: u32) -> Result<(), AllocError> {
     let again = Utc(again);
     write!(

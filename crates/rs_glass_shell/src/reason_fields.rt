@@ -13,8 +13,8 @@ pub fn hand_peer(row: &mut RowWriter<'_>, plan: &Exchange, peer: usize) {
     row.number("as", u64::from(asn_at(plan, peer)));
 }
 
-/// Hands over the reason for which a client does not get the route of a peer, which is empty for another answer, and in
-/// JSON what belongs to it.
+/// Hands over the reason for which a client does not get the route of a peer; it is empty for another answer. In
+/// JSON the details of the reason follow.
 pub fn hand_reason(
     row: &mut RowWriter<'_>,
     plan: &Exchange,

@@ -78,7 +78,7 @@ pub fn origin_name(origin: Origin) -> &'static str {
     }
 }
 
-/// Why a session closed. Fails where memory is refused.
+/// Why a session closed.
 pub fn close_text(alloc: Global, reason: Reason) -> Result<String, AllocError> {
     match reason {
         Reason::EndOfFile => String::from_str(alloc, "end"),

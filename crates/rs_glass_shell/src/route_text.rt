@@ -5,7 +5,7 @@ use rs_update::{Attributes, Numbers, SegmentView};
 use std::alloc::{AllocError, Global};
 use std::net::Ipv4Addr;
 
-/// An AS_PATH: its AS numbers, an AS_SET between braces. Fails where memory is refused.
+/// An AS_PATH: its AS numbers, an AS_SET between braces.
 pub fn path_text(alloc: Global, attributes: &Attributes) -> Result<String, AllocError> {
     let mut text = String::new(alloc);
     for segment in attributes.path() {
@@ -48,7 +48,7 @@ fn community_of(alloc: Global, community: u32) -> Result<String, AllocError> {
     format!(in alloc; "{high}:{low}")
 }
 
-/// The communities of a route. Fails where memory is refused.
+/// The communities of a route.
 pub fn community_texts(alloc: Global, attributes: &Attributes) -> Result<Vec<String>, AllocError> {
     let mut texts = Vec::new(alloc);
     let Some(communities) = attributes.communities() else {
@@ -65,7 +65,7 @@ pub const LARGE_COMMUNITY: u8 = 32;
 
 const LARGE_LEN: usize = 12;
 
-/// The large communities of a route. Fails where memory is refused.
+/// The large communities of a route.
 pub fn large_community_texts(
     alloc: Global,
     attributes: &Attributes,
@@ -77,7 +77,7 @@ pub fn large_community_texts(
     Ok(texts)
 }
 
-// The octets of a route's large communities; none where it has no such attribute.
+// The octets of a route's large communities; none if it has no such attribute.
 fn large_communities(attributes: &Attributes) -> &[u8] {
     for other in attributes.others() {
         if other.kind == LARGE_COMMUNITY {
@@ -100,7 +100,7 @@ fn large_community_of(alloc: Global, octets: &[u8]) -> Result<String, AllocError
     }
 }
 
-/// The attributes of a route that decide where it goes. Fails where memory is refused.
+/// The attributes of a route that decide where it goes.
 pub fn attributes_text(alloc: Global, attributes: &Attributes) -> Result<String, AllocError> {
     let path = path_text(alloc, attributes)?;
     let origin = origin_name(attributes.origin());
@@ -122,7 +122,7 @@ pub fn attributes_text(alloc: Global, attributes: &Attributes) -> Result<String,
     Ok(text)
 }
 
-// Adds texts behind their title, where there are any.
+// Adds texts behind their title, if there are any.
 fn add_texts(text: &mut String, title: &str, texts: &[String]) -> Result<(), AllocError> {
     if texts.is_empty() {
         return Ok(());
@@ -135,7 +135,7 @@ fn add_texts(text: &mut String, title: &str, texts: &[String]) -> Result<(), All
     Ok(())
 }
 
-/// Octets as hexadecimal digits. Fails where memory is refused.
+/// Octets as hexadecimal digits.
 pub fn hex_text(alloc: Global, octets: &[u8]) -> Result<String, AllocError> {
     let mut text = String::new(alloc);
     for octet in octets {

@@ -17,7 +17,7 @@ use std::thread::Threads;
 const RING: usize = 1024;
 
 /// The tables that the recorded files of a setup leave. The first file that can't be read is named. A number of shards
-/// that is not from 1 to 16 is refused. Fails where memory is refused, and where a peer's changes aren't known to have
+/// that is not from 1 to 16 is refused. Fails if memory is refused, and if a peer's changes aren't known to have
 /// come.
 pub fn served<R: AllocGlobal + Files + Threads + Wait + Sync>(
     rt: &R,

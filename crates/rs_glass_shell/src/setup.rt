@@ -12,9 +12,9 @@ use rs_setup::Setup;
 use std::alloc::{AllocError, Global};
 use std::net::Ipv4Addr;
 
-/// Finds the number of the peer that a word names: the first one of that name, or, if no peer has that name, the one
-/// that has the address or the AS number that the word is. An AS number may stand behind `AS` or `as`. A word that names
-/// no peer is refused, and one that is the AS number of several. Fails if memory is refused.
+/// Finds the number of the peer that a word names: the first peer of that name. If no peer has that name, it is the
+/// peer whose address or AS number the word is. An AS number may stand behind `AS` or `as`. A word that names no
+/// peer is refused, and so is the AS number of several peers.
 pub fn peer_named<R: AllocGlobal>(rt: &R, setup: &Setup, word: &str) -> Result<usize, Unanswered>
     ensures known { IfOk result (λ number. number < length setup.now.plan.value.peers) }
     ensures named { IfOk result (Names word.now setup.now.plan.value.peers) }
@@ -22,7 +22,7 @@ pub fn peer_named<R: AllocGlobal>(rt: &R, setup: &Setup, word: &str) -> Result<u
     named_in(rt.alloc(), &setup.plan, word)
 }
 
-// The same, of the peers of an exchange.
+// Finds the number of the peer of an exchange that a word names.
 fn named_in(alloc: Global, plan: &Exchange, word: &str) -> Result<usize, Unanswered>
     ensures known { IfOk result (λ number. number < length plan.now.peers) }
     ensures named { IfOk result (Names word.now plan.now.peers) }

@@ -9,8 +9,8 @@ use std::alloc::{AllocError, Global};
 // The marks that stand in a word of a shell as they are, beside letters and digits.
 const PLAIN: &str = "._-/+:,@%";
 
-/// Adds a text to a command as one word, as a shell reads it. Control characters in it are shown as `on_one_line` shows
-/// them. Fails if memory is refused.
+/// Adds a text to a command as one word, as a shell reads it. Control characters in it are shown as `on_one_line`
+/// shows them.
 pub fn add_shell_word(alloc: Global, command: &mut String, text: &str) -> Result<(), AllocError> {
     let text = on_one_line(alloc, text)?;
     if is_plain(&text) {

@@ -20,8 +20,7 @@ impl PeerNames {
         }
     }
 
-    /// Adds the line of the name of the next peer with an AS number: after the first one it is numbered. Fails where
-    /// memory is refused.
+    /// Adds the line of the name of the next peer with an AS number: after the first one it is numbered.
     pub fn add_name(&mut self, text: &mut String, asn: u32) -> Result<(), AllocError> {
         let Some(count) = self.peers_of.get_mut(&asn) else {
             self.peers_of.insert(asn, 1)?;
@@ -33,7 +32,7 @@ impl PeerNames {
     }
 }
 
-/// The text as a basic string of TOML (TOML 1.0, "String"). Fails where memory is refused.
+/// The text as a basic string of TOML (TOML 1.0, "String").
 pub fn quoted(alloc: Global, text: &str) -> Result<String, AllocError> {
     let mut quoted = String::from_str(alloc, "\"")?;
     for character in text.chars() {

@@ -60,7 +60,7 @@ impl Unanswered {
         }
     }
 
-    // The status where `diff` isn't answered: 2 where the command line or a configuration is refused, since 1 says there
+    // The status if `diff` isn't answered: 2 if the command line or a configuration is refused, since 1 says there
     // that something differs.
     fn diff_status(&self) -> u8
         ensures { result ≡ diff_status_of self.now }
@@ -81,7 +81,7 @@ pub struct NoReply {
 
 impl NoReply {
     /// Of a question that isn't answered, which is `diff` or another one. The status is that of `Unanswered::status`. Of
-    /// `diff` it is 2 where the command line or a configuration is refused, since 1 says there that something differs.
+    /// `diff` it is 2 if the command line or a configuration is refused, since 1 says there that something differs.
     pub fn new(why: Unanswered, of_diff: bool) -> NoReply
         ensures why { result.why ≡ why }
         ensures status { result.status ≡ status_in of_diff why }

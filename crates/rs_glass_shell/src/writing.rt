@@ -1,7 +1,7 @@
 //! A file that is written whole or not at all.
 //!
-//! Our choice: where nothing or a file stands at the path, the text is written beside it, to a part file that then
-//! takes its place. So an older file stays where that fails. What else stands there, such as a device, is opened
+//! Our choice: if nothing or a file stands at the path, the text is written beside it, to a part file that then
+//! takes its place. So an older file stays if that fails. What else stands there, such as a device, is opened
 //! itself. No file is written over one that is read.
 
 use crate::unanswered::Unanswered;
@@ -11,8 +11,8 @@ use std::fs;
 use std::fs::{File, Files};
 use std::io::Write;
 
-/// Refuses a place, with `Unwritten`, if a file with it would be written over the configuration at a path or over a
-/// recorded file of its setup. Fails if memory is refused.
+/// Refuses a place, with `Unwritten`, if a file there would be written over the configuration at a path. It also
+/// does for a recorded file of its setup.
 pub fn check_place<R: AllocGlobal + Files>(
     rt: &R,
     place: &str,
@@ -26,7 +26,7 @@ pub fn check_place<R: AllocGlobal + Files>(
     Ok(())
 }
 
-/// Writes a text to the file at a path. Fails with `Unwritten` where that fails, and then an older file stays; or where
+/// Writes a text to the file at a path. Fails with `Unwritten` if that fails, and then an older file stays; or if
 /// memory is refused.
 pub fn write_whole<R: AllocGlobal + Files>(
     rt: &R,

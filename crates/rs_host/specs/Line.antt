@@ -1,4 +1,4 @@
--- A line of text: with its control characters escaped, and of a program (docs/MANUAL.md, "Texts").
+-- A line of text with its control characters escaped, and a line of a program (docs/MANUAL.md, "Texts").
 use Rattle.std.specs.Prelude.{◌==◌, ◌+◌, ◌/◌, ◌%◌, ℕ, List, ◌++◌, codes, encode_utf8, if◌then◌else◌, nat_lt}
 use Rattle.std.specs.Char.{is_control}
 use Rattle.std.specs.List.{flat_map}
@@ -17,8 +17,8 @@ escaped control =
     codes "\\u{" ++ (encode_utf8 (hex_digit (control / 16 % 16))
     ++ (encode_utf8 (hex_digit (control % 16)) ++ codes "}"))
 
--- a character as it is shown: a line break as two characters, another control character by its number, any
--- other as it is
+-- a character as it is shown: a line break as two characters, another control character by its number, any other
+-- unchanged
 abbrev pub shown : ℕ → Text
 shown character =
     if character == 10 then codes "\\n"
@@ -33,7 +33,7 @@ one_line text = flat_map shown (chars text)
 abbrev pub named : Text → Text → Text
 named program text = program ++ (codes ": " ++ text)
 
--- what a program says where memory was refused
+-- the line of a program if memory was refused
 abbrev pub out_of_memory : Text
 out_of_memory = codes "out of memory"
 

@@ -1,4 +1,4 @@
--- What a program prints where it refuses a command line or a configuration (docs/MANUAL.md, "Texts").
+-- What a program prints if it refuses a command line or a configuration (docs/MANUAL.md, "Texts").
 use Rattle.std.specs.Prelude.{ℕ, ◌++◌, Option, None, Some, codes, string_bytes}
 use Rattle.std.specs.Fmt.{decimal}
 use Rattle.rs_choice.specs.FaultNumber.{number_of_fault, peer_of_fault}
@@ -10,7 +10,7 @@ use Rattle.rs_options.specs.declared.options.WordsFault.TheVariants as words
 use Rattle.rs_setup.specs.declared.setup.SetupFault.{SetupFault}
 use Rattle.rs_setup.specs.declared.setup.SetupFault.TheVariants as setup
 
--- the number of a fault, and of the peer at fault where there is one
+-- the number of a fault, and of the peer at fault if there is one
 abbrev pub numbers : ℕ → Option ℕ → Text
 numbers fault None = decimal fault
 numbers fault (Some peer) = decimal fault ++ (codes " at peer " ++ decimal peer)
@@ -20,7 +20,7 @@ abbrev pub plan_text : PlanFault → Text
 plan_text plan.Memory = out_of_memory
 plan_text fault = codes "plan fault P" ++ numbers (number_of_fault fault) (peer_of_fault fault)
 
--- what is said of a key of the configuration
+-- the text about a key of the configuration
 abbrev pub key_text : Text → Text → Text
 key_text key what = codes "configuration: " ++ (one_line key ++ (codes " is " ++ what))
 
@@ -33,11 +33,11 @@ setup_text (setup.NotValid key) = key_text (string_bytes key) (codes "not valid"
 setup_text (setup.Plan fault) = plan_text fault
 setup_text setup.Memory = out_of_memory
 
--- and the line of a program that says so
+-- the line of a program about a refused configuration
 abbrev pub setup_line : Text → SetupFault → Text
 setup_line program fault = named program (setup_text fault)
 
--- of help, the version and a refused command line the text of `clap`
+-- the text about refused words; for help, the version and a refused command line it is the text of `clap`
 abbrev pub words_text : Text → WordsFault → Text
 words_text program (words.Help text) = string_bytes text
 words_text program (words.Refused text) = string_bytes text

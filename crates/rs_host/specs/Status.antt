@@ -26,17 +26,17 @@ out_of_memory = 3
 abbrev pub unsettled : ℕ
 unsettled = 4
 
--- a run isn't clean, and that is asked for
+-- a run isn't clean, though a clean one is asked for
 abbrev pub not_clean : ℕ
 not_clean = 5
 
--- where the words of a command line ask for nothing that can be done
+-- the status if the words of a command line ask for nothing that can be done
 abbrev pub words_status : WordsFault → ℕ
 words_status (words.Help text) = done
 words_status (words.Refused text) = refused
 words_status words.Memory = out_of_memory
 
--- where a configuration is refused
+-- the status if a configuration is refused
 abbrev pub setup_status : SetupFault → ℕ
 setup_status (setup.Plan plan.Memory) = out_of_memory
 setup_status setup.Memory = out_of_memory

@@ -1,4 +1,4 @@
--- What a fault of a file keeps a program from (docs/MANUAL.md, "Statuses"); ours.
+-- What a fault of a file keeps a program from doing (docs/MANUAL.md, "Statuses"); our choice.
 use Rattle.std.specs.Prelude.{◌≡◌, ⊤, ℕ, List, string_bytes}
 use Rattle.rs_host.specs.declared.fault.FileFault.{FileFault}
 use Rattle.rs_host.specs.declared.fault.FileFault.TheVariants as file

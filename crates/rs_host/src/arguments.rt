@@ -6,8 +6,8 @@ use std::env;
 use std::env::Env;
 use std::io::ErrorKind;
 
-/// The words of the command line, which begin with the program's own name. Fails with `Refused` where one isn't UTF-8,
-/// with a line that begins with `head`, and with `Memory` where memory is refused.
+/// The words of the command line, which begin with the program's own name. Fails with `Refused` if one isn't UTF-8,
+/// with a line that begins with `head`, and with `Memory` if memory is refused.
 pub fn read_arguments<R: AllocGlobal + Env>(rt: &R, head: &str) -> Result<Vec<String>, WordsFault> {
     let alloc = rt.alloc();
     match env::args(rt) {

@@ -6,8 +6,8 @@ ghost use Rattle.rs_host.specs.Line.{escaped, hex_digit, one_line, shown};
 
 use std::alloc::{AllocError, Global};
 
-/// The text with its line breaks shown as `\n` and `\r` and its other control characters as `\u{1b}`, so that it stays
-/// on one line. Fails where memory is refused.
+/// The text with its line breaks shown as `\n` and `\r` and its other control characters as `\u{1b}`, so that it
+/// stays on one line.
 pub fn on_one_line(alloc: Global, text: &str) -> Result<String, AllocError>
     ensures { IfOk result (λ line. string_bytes line ≡ one_line text.now) }
 {
@@ -18,7 +18,7 @@ pub fn on_one_line(alloc: Global, text: &str) -> Result<String, AllocError>
     Ok(line)
 }
 
-/// Each of some texts as `on_one_line` shows it, in their order. Fails where memory is refused.
+/// Each of some texts as `on_one_line` shows it, in their order.
 pub fn each_on_one_line(alloc: Global, texts: &[String]) -> Result<Vec<String>, AllocError>
     ensures { IfOk result (λ lines.
         map string_bytes lines.items ≡ map (λ text. one_line (string_bytes text)) texts.now) }

@@ -25,7 +25,7 @@ impl FileIdentity {
     }
 }
 
-/// What the path names; none where nothing is there, or where nothing is known of it. Fails where memory is refused.
+/// What the path names; none if nothing is there, or if nothing is known of it.
 pub fn found_at<R: Files>(rt: &R, path: &str) -> Result<Option<Metadata>, AllocError> {
     match fs::metadata(rt, path) {
         Ok(found) => Ok(Some(found)),

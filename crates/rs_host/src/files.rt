@@ -17,9 +17,9 @@ use std::io::Read;
 /// Opens the recorded files of the peers of a setup, in their order, and reads nothing yet. They will be read within
 /// bounds, with these losses, and through what `observed` makes of each file.
 ///
-/// Fails with `Unread` and the path of the first that can't be opened. Where each is there, it fails so at the first
-/// that gives its octets only once, as a pipe does, and that an earlier path names too. Fails with `Memory` where
-/// memory is refused.
+/// Fails with `Unread` and the path of the first that can't be opened. If each is there, it fails for the first that
+/// an earlier path names too and that gives its octets only once, as a pipe does. Fails with `Memory` if memory is
+/// refused.
 pub fn open_files<R: AllocGlobal + Files, F: Read + Drop, O: Fn(R::File) -> F>(
     rt: &R,
     setup: &Setup,

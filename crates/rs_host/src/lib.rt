@@ -9,6 +9,8 @@
 //! characters are escaped), `times` (times of records as texts, RFC 6396, section 2). `arguments` (the words of the
 //! command line). `refusal` (why a command line or a configuration is refused), `line` and `status` (how a program
 //! ends).
+//!
+//! A call that allocates fails if memory is refused.
 #![tactic(auto)]
 
 mod arguments;

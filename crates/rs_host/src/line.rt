@@ -1,4 +1,4 @@
-//! The line with which a program ends where it fails, and how that is printed. All of it is our choice.
+//! The line with which a program ends if it fails, and how that is printed. All of it is our choice.
 
 ghost use Rattle.std.specs.Prelude.{◌≡◌, IfOk, string_bytes};
 ghost use Rattle.rs_host.specs.Line.{named, unread_line, unread_text};
@@ -9,21 +9,21 @@ use rs_options::WordsFault;
 use std::alloc::{AllocError, Global};
 use std::process::ExitCode;
 
-/// What a program says where memory was refused.
+/// What a program says if memory was refused.
 pub const MEMORY_TEXT: &str = "out of memory";
 
-/// What a program says where standard output can't be written.
+/// What a program says if standard output can't be written.
 pub const OUTPUT_TEXT: &str = "cannot write standard output";
 
-/// A line of a program, without a line break at its end: its name and a text. Fails where memory is refused.
+/// A line of a program, without a line break at its end: its name and a text.
 pub fn program_line(alloc: Global, program: &str, text: &str) -> Result<String, AllocError>
     ensures { IfOk result (λ line. string_bytes line ≡ named program.now text.now) }
 {
     format!(in alloc; "{program}: {text}")
 }
 
-/// The line in which a program names a file that it can't read, without a line break at its end. Control characters in
-/// the path are escaped, as `on_one_line` shows them. Fails where memory is refused.
+/// The line in which a program names a file that it can't read, without a line break at its end. Control characters
+/// in the path are escaped, as `on_one_line` shows them.
 pub fn unread_line(alloc: Global, program: &str, path: &str) -> Result<String, AllocError>
     ensures { IfOk result (λ line. string_bytes line ≡ unread_line program.now path.now) }
 {

@@ -5,8 +5,8 @@ use crate::part_file::part_path;
 use std::alloc::AllocError;
 use std::fs::Files;
 
-/// The files that a program reads: its configuration, or whatever else stands at this path, and those at these paths.
-/// A path where nothing is gives none. Fails if memory is refused.
+/// The files that a program reads: its configuration, or whatever else stands at this path, and those at these
+/// paths. A path if nothing is gives none.
 pub fn files_read<R: AllocGlobal + Files>(
     rt: &R,
     config: &str,
@@ -24,8 +24,8 @@ pub fn files_read<R: AllocGlobal + Files>(
     Ok(read)
 }
 
-/// Whether a file with this place would be written over one of these files: what stands at the place, or at that of its
-/// part file, is one of them, by this path, by another one or by a link. Fails if memory is refused.
+/// Whether a file with this place would be written over one of these files. Then one of them stands at the place or
+/// at that of its part file. It may do so by this path, by another one or by a link.
 pub fn writes_over<R: AllocGlobal + Files>(
     rt: &R,
     place: &str,

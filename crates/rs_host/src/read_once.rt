@@ -13,9 +13,9 @@ use std::os::unix::fs::{FileTypeExt, MetadataExt};
 // The number of the null device.
 const NULL_DEVICE: u64 = 0x103;
 
-/// The first of these paths at which there is no file. If all are there: the first that names a pipe, or
-/// another file that can be read only once, which an earlier path names too. Nothing is opened, since opening a
-/// pipe may wait for its writer. Fails if memory is refused.
+/// The first of these paths at which there is no file. If all are there: the first that names a pipe, or another
+/// file that can be read only once, which an earlier path names too. Nothing is opened, since opening a pipe may
+/// wait for its writer.
 pub fn first_unreadable<R: AllocGlobal + Files>(
     rt: &R,
     paths: &[String],

@@ -21,15 +21,15 @@ pub type Bounded<F> = BoundedReader<Recorded<F>>;
 /// The same with the losses of a peer that its records show, if these are asked for.
 pub type Replayed<F> = LossReader<Bounded<F>>;
 
-/// Opens the recorded file at a path, and reads nothing yet. Fails with `Unread` where it can't be opened, with
-/// `Memory` where memory is refused.
+/// Opens the recorded file at a path, and reads nothing yet. Fails with `Unread` if it can't be opened, with
+/// `Memory` if memory is refused.
 pub fn open_file<R: AllocGlobal + Files>(rt: &R, path: &str) -> Result<Recorded<R::File>, FileFault>
     ensures no_failure { IfOk result (λ file. file.failures ≡ 0) }
 {
     in_pieces(rt.alloc(), open(rt, path)?)
 }
 
-/// Opens the file at a path, and reads nothing yet. Fails with `Unread` where it can't be opened, with `Memory` where
+/// Opens the file at a path, and reads nothing yet. Fails with `Unread` if it can't be opened, with `Memory` if
 /// memory is refused.
 pub fn open<R: Files>(rt: &R, path: &str) -> Result<R::File, FileFault> {
     match File::open(rt, path) {
@@ -38,7 +38,7 @@ pub fn open<R: Files>(rt: &R, path: &str) -> Result<R::File, FileFault> {
     }
 }
 
-/// What a reader gives, read in pieces of `PIECE_LEN` octets, of which none is read yet. Fails with `Memory` where
+/// What a reader gives, read in pieces of `PIECE_LEN` octets, of which none is read yet. Fails with `Memory` if
 /// memory for a piece is refused.
 pub fn in_pieces<F: Read + Drop>(alloc: Global, inner: F) -> Result<Recorded<F>, FileFault>
     ensures no_failure { IfOk result (λ file. file.failures ≡ 0) }

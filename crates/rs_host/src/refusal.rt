@@ -10,8 +10,8 @@ use rs_options::WordsFault;
 use rs_setup::SetupFault;
 use std::alloc::{AllocError, Global};
 
-/// What a program prints where its command line asks for nothing that can be done: the whole text of help and of a
-/// refusal, and the line, without a line break at its end, of want of memory. Fails where memory is refused.
+/// What a program prints if its command line asks for nothing that can be done: the whole text of help and of a
+/// refusal, and the line, without a line break at its end, of want of memory.
 pub fn words_text(alloc: Global, program: &str, fault: &WordsFault) -> Result<String, AllocError>
     ensures { IfOk result (λ text. string_bytes text ≡ words_text program.now fault.now) }
 {
@@ -22,8 +22,8 @@ pub fn words_text(alloc: Global, program: &str, fault: &WordsFault) -> Result<St
     }
 }
 
-/// The line in which a program says why it refuses a configuration, without a line break at its end. It begins with the
-/// program's name; control characters in a key are escaped, as `on_one_line` shows them. Fails where memory is refused.
+/// The line in which a program says why it refuses a configuration, without a line break at its end. It begins with
+/// the program's name; control characters in a key are escaped, as `on_one_line` shows them.
 pub fn setup_line(alloc: Global, program: &str, fault: &SetupFault) -> Result<String, AllocError>
     ensures { IfOk result (λ line. string_bytes line ≡ setup_line program.now fault.now) }
 {

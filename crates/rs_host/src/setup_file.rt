@@ -7,8 +7,8 @@ use crate::whole::read_file;
 use rs_setup::{Setup, a_configuration_has_a_file_for_each_peer, read_setup};
 use std::fs::Files;
 
-/// Reads the configuration at a path. Fails with `Unread` and the path where the file can't be read, with `Setup` where
-/// the configuration is refused, with `Memory` where memory is refused.
+/// Reads the configuration at a path. Fails with `Unread` and the path if the file can't be read, with `Setup` if
+/// the configuration is refused, with `Memory` if memory is refused.
 pub fn configuration<R: AllocGlobal + Files>(rt: &R, path: &str) -> Result<Setup, Unready>
     ensures { IfOk result (λ setup. length setup.files.items ≡ length setup.plan.value.peers) }
 {

@@ -22,10 +22,10 @@ pub const OUT_OF_MEMORY: u8 = 3;
 /// Not all changes of a peer are known to have been applied in a run.
 pub const UNSETTLED: u8 = 4;
 
-/// A session closed before the end of its file, or there is a note, and a status is asked for where that is so.
+/// A session closed before the end of its file, or there is a note, and a status is asked for if that is so.
 pub const NOT_CLEAN: u8 = 5;
 
-/// The status where the words of a command line ask for nothing that can be done.
+/// The status if the words of a command line ask for nothing that can be done.
 pub fn words_status(fault: &WordsFault) -> u8
     ensures { result ≡ the_words_status fault.now }
 {
@@ -36,7 +36,7 @@ pub fn words_status(fault: &WordsFault) -> u8
     }
 }
 
-/// The status where a configuration is refused.
+/// The status if a configuration is refused.
 pub fn setup_status(fault: &SetupFault) -> u8
     ensures { result ≡ the_setup_status fault.now }
 {

@@ -9,8 +9,8 @@ use std::fs::Files;
 /// The number of octets that a file which is read whole must stay below: 2^50.
 pub const FILE_LIMIT: usize = 1_125_899_906_842_624;
 
-/// Reads the file at a path whole. Fails with `Unread` where it can't be opened or read, or has `FILE_LIMIT` octets or
-/// more, with `Memory` where memory is refused.
+/// Reads the file at a path whole. Fails with `Unread` if it can't be opened or read, or has `FILE_LIMIT` octets or
+/// more, with `Memory` if memory is refused.
 pub fn read_file<R: AllocGlobal + Files>(rt: &R, path: &str) -> Result<Vec<u8>, FileFault>
     ensures limit { IfOk result (λ octets. vec_len octets < FILE_LIMIT) }
 {

@@ -101,7 +101,7 @@ goes-push findings one back goes = record {
   octet = goes.octet;
 }
 
--- what is told of where times go back, with one record more
+-- the answer about where times go back, after one more record
 pub back-push : (findings : List Finding) (one : Finding) (back : Option Back) (last : Option ℕ) → TellsBack findings back
     → IsLatest (map (λ f. f.time) findings) last
     → TellsBack (findings ++ one ∷ []) (first_back back

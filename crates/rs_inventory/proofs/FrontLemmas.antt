@@ -36,7 +36,7 @@ module _ {R : Type 0} (gives : R → List ℕ → ReadEnd → Type 0) where
   inner-of : (w : Rewound R) → w.held ≡ [] → w.ended ≡ false → w ≡ record { held = []; ended = false; inner = w.inner }
   inner-of w held ended = λ i. record { held = held i; ended = ended i; inner = w.inner }
 
-  -- the reader is asked where nothing is held
+  -- the reader is asked if no octets are kept
   pub asks-inner : (old new : Rewound R) (result : Result ℕ Failed) (piece : List ℕ) → old.held ≡ [] → old.ended ≡ false → new.held ≡ []
       → new.ended ≡ false
       → ReadGives (gives old.inner) (gives new.inner) result piece

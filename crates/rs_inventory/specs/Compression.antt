@@ -6,7 +6,7 @@ use Rattle.std.specs.List.{starts_with}
 use Rattle.rs_inventory.specs.declared.compression.Compression.{Compression}
 use Rattle.rs_inventory.specs.declared.compression.Compression.TheVariants as by
 
--- octets begin with these
+-- the octets begin with these
 abbrev pub begins : List ℕ → List ℕ → Bool
 begins front octets = starts_with (λ x y. x == y) octets front
 
@@ -16,7 +16,7 @@ is_bzip2 octets =
     begins (66 ∷ 90 ∷ 104 ∷ []) octets && nat_le 49 (slice_index octets 3) && nat_le (slice_index octets 3) 57
     && begins (0x31 ∷ 0x41 ∷ []) (drop 4 octets)
 
--- how a file is compressed that begins with these octets
+-- how a file is compressed, by its first octets
 abbrev pub compression_of : List ℕ → Option Compression
 compression_of octets =
     if begins (0x1f ∷ 0x8b ∷ 8 ∷ []) octets then Some by.Gzip
@@ -25,7 +25,7 @@ compression_of octets =
     else if begins (0x28 ∷ 0xb5 ∷ 0x2f ∷ 0xfd ∷ []) octets then Some by.Zstd
     else None
 
--- the name of the program that made it
+-- the name of the program that compresses so
 abbrev pub compression_name : Compression → List ℕ
 compression_name by.Gzip = codes "gzip"
 compression_name by.Bzip2 = codes "bzip2"

@@ -1,5 +1,5 @@
--- How the records of a peer begin and go on (RFC 4271, sections 4 and 8; RFC 6396, section 4.4.4). What shows that a
--- session begins, is up or is lost is our choice.
+-- How the records of a peer begin and go on (RFC 4271, sections 4 and 8; RFC 6396, section 4.4.4). Our choice: which
+-- records show that a session begins, is up or is lost.
 use Rattle.std.specs.Prelude.{ℕ, ◌&&◌, ◌||◌, not, Bool, true, false, if◌then◌else◌, List, [], ◌∷◌, Option, Some, None}
 use Rattle.std.specs.Prelude.{reverse}
 use Rattle.std.specs.Option.{option_map}
@@ -7,7 +7,7 @@ use Rattle.rs_inventory.specs.declared.course.Course.{Course}
 use Rattle.rs_inventory.specs.declared.finding.News.{News}
 use Rattle.rs_inventory.specs.declared.finding.News.TheVariants as news
 
--- what a record says of a peer, with its Timestamp
+-- the meaning of a record for a peer, with its Timestamp
 abbrev pub Timed : Type 0
 Timed = ℕ × News
 
@@ -30,7 +30,7 @@ is_loss news.Notification = true
 is_loss news.Down = true
 is_loss other = false
 
--- a recording that begins so misses nothing of the session: with an OPEN or a change of state
+-- a recording that begins with an OPEN or a change of state misses no part of the session
 abbrev pub is_start : News → Bool
 is_start (news.Open identifier) = true
 is_start (news.TwoOctetOpen identifier) = true
@@ -49,14 +49,14 @@ abbrev pub begins_inside : Option Timed → Bool
 begins_inside None = false
 begins_inside (Some one) = not (is_start one.1)
 
--- ---- records, the last one first
+-- ---- records in reverse order
 
--- the session is up: since its last loss a record shows so
+-- the session is up: some record since its last loss shows that it is up
 abbrev pub is_up : List Timed → Bool
 is_up [] = false
 is_up (one ∷ earlier) = if is_loss one.1 then false else shows_up one.1 || is_up earlier
 
--- when it began while it was up, the last time since its last loss
+-- the last time since its last loss at which the session began while it was up
 abbrev pub again_at : List Timed → Option ℕ
 again_at [] = None
 again_at (one ∷ earlier) =
@@ -73,14 +73,14 @@ course_of told = record {
   again = again_at (reverse told);
 }
 
--- ---- one record more
+-- ---- one more record
 
--- the first time, with one more
+-- the first time, after one more record
 abbrev pub first_with : ℕ → Option ℕ → ℕ
 first_with time None = time
 first_with time (Some first) = first
 
--- whether the recording begins in mid-session, with one record more
+-- whether the recording begins in mid-session, after one more record
 abbrev pub inside_with : News → Option ℕ → Bool → Bool
 inside_with one None inside = not (is_start one)
 inside_with one (Some first) inside = inside

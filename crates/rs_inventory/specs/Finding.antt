@@ -23,8 +23,8 @@ use Rattle.rs_inventory.specs.declared.peer.Peer.{Peer}
 
 -- ---- a message
 
--- what a message is, and what it says of its sender: of an UPDATE how many prefixes it lists, of an OPEN its
--- BGP Identifier
+-- the kind of a message, and its meaning for its sender: the number of prefixes of an UPDATE, the BGP Identifier of
+-- an OPEN
 abbrev pub kind_of_message : Result MessageContent MessageFault → Kind
 kind_of_message (Ok IsOpen) = kinds.Open
 kind_of_message (Ok (IsUpdate update)) = kinds.Update
@@ -47,7 +47,7 @@ news_of_message octets (Err fault) = news.Faulty
 abbrev pub type_in : List ℕ → Option ℕ
 type_in octets = slice_get octets 18
 
--- what a message is by its type alone: OPEN 1, UPDATE 2, NOTIFICATION 3, KEEPALIVE 4 (RFC 4271, section 4.1) and
+-- the kind of a message by its type alone: OPEN 1, UPDATE 2, NOTIFICATION 3, KEEPALIVE 4 (RFC 4271, section 4.1),
 -- ROUTE-REFRESH 5 (RFC 2918, section 3)
 abbrev pub kind_of_type : Option ℕ → Kind
 kind_of_type None = kinds.Faulty
@@ -59,7 +59,7 @@ kind_of_type (Some n) =
     else if n == 5 then kinds.RouteRefresh
     else kinds.Faulty
 
--- and what it says then: of an UPDATE no prefixes are counted
+-- the meaning of a message by its type alone; no prefixes of an UPDATE are counted
 abbrev pub news_of_kind : List ℕ → Kind → News
 news_of_kind octets kinds.Open = news.Open (identifier_of octets)
 news_of_kind octets kinds.Update = news.Update 0 0
@@ -68,7 +68,7 @@ news_of_kind octets kinds.KeepAlive = news.Message
 news_of_kind octets kinds.RouteRefresh = news.Message
 news_of_kind octets _ = news.Faulty
 
--- the same by how deep messages are read: whole, or no more than their types
+-- the kind of a message, by whether messages are read whole or only their types
 abbrev pub kind_at : Depth → List ℕ → Kind
 kind_at depths.Whole octets = kind_of_message (message_of octets)
 kind_at (depths.Outline recorder) octets = kind_of_type (type_in octets)
@@ -79,7 +79,7 @@ news_at (depths.Outline recorder) octets = news_of_kind octets (kind_of_type (ty
 
 -- ---- a change of state
 
--- a session comes up with a change to Established, state 6, and goes down with a change from it (RFC 6396,
+-- a session comes up with a change to Established, state 6, and goes down with a change from Established (RFC 6396,
 -- section 4.4.1)
 abbrev pub news_of_states : ℕ → ℕ → News
 news_of_states old new =
@@ -93,7 +93,7 @@ news_of_states old new =
 abbrev pub note_of : ℕ → ℕ → News → Note
 note_of address asn told = record { peer = record { address = address; asn = asn }; news = told }
 
--- how many octets a record has, where all of them are there: of longer ones only a front is shown
+-- how many octets a record has, if all of them are there; of longer records only a front is shown
 abbrev pub known_octets : List ℕ → Option ℕ
 known_octets body = if nat_lt (length body) front_len then Some (header_len + length body) else None
 
@@ -104,11 +104,11 @@ recorder_in (Some fields) =
     if nat_lt (length fields) message_place then None
     else Some (record { address = big_number 4 (drop 16 fields); asn = big_number 4 (drop 4 fields) })
 
--- two peers are the same
+-- whether two peers are the same
 abbrev pub is_peer : Peer → Peer → Bool
 is_peer one other = (one.address == other.address) && (one.asn == other.asn)
 
--- the recorder, where it is the one that is asked for
+-- the recorder, if it is the one that is asked for
 abbrev pub where_asked : Option Peer → Option Peer → Option Peer
 where_asked None found = found
 where_asked (Some asked) None = None
@@ -118,29 +118,29 @@ abbrev pub recorder_at : Depth → Option Peer → Option Peer
 recorder_at depths.Whole found = found
 recorder_at (depths.Outline asked) found = where_asked asked found
 
--- the fields of BGP4MP_MESSAGE: Peer AS of two octets at 0, Address Family at 6, Peer IP Address at 8, and of
--- an IPv4 peer the message at 16 (RFC 6396, section 4.4.2)
+-- the fields of BGP4MP_MESSAGE (RFC 6396, section 4.4.2): Peer AS of two octets at 0, Address Family at 6, Peer IP
+-- Address at 8; for an IPv4 peer the message is at 16
 abbrev pub is_ipv4_message : List ℕ → Bool
 is_ipv4_message fields = nat_le 16 (length fields) && (big_number 2 (drop 6 fields) == family_ipv4)
 
--- what an OPEN behind them says
+-- the meaning of an OPEN in such a record
 unfoldable pub opener_of : List ℕ → Note
 opener_of fields =
     note_of (big_number 4 (drop 8 fields)) (sender_as (big_number 2 fields) (drop 16 fields))
     (news.TwoOctetOpen (identifier_of (drop 16 fields)))
 
--- what such fields say where the message is an OPEN by its type
+-- the meaning of such fields, if their message is an OPEN by its type
 abbrev pub two_octet_open : List ℕ → Option Note
 two_octet_open fields =
     if is_ipv4_message fields && is_kind kinds.Open (kind_of_type (type_in (drop 16 fields))) then Some (opener_of fields)
     else None
 
--- what a record of a session with two-octet AS numbers says: its messages have Subtype 1, and of those only
--- an OPEN is read (our choice)
+-- the meaning of a record of a session with two-octet AS numbers: its messages have Subtype 1, and only an OPEN is
+-- read (our choice)
 unfoldable pub two_octet_note : MrtRecord → Option Note
 two_octet_note r = if r.subtype == 1 then option_and_then two_octet_open (fields_of r) else None
 
--- what a record adds by what it says
+-- what a record adds to an inventory, by its meaning
 abbrev pub finding_by : Depth → MrtRecord → Result Meaning MrtFault → Finding
 finding_by depth r (Ok (Message asn address octets)) = record {
   time = r.time;
@@ -167,6 +167,6 @@ finding_by depth r (Ok Other) =
 finding_by depth r (Err fault) =
     record { time = r.time; kind = kinds.CutShort; octets = known_octets r.body; recorder = None; note = None }
 
--- what a record adds
+-- what a record adds to an inventory
 abbrev pub finding_of : Depth → MrtRecord → Finding
 finding_of depth r = finding_by depth r (entry_of r)

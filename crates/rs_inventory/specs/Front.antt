@@ -1,21 +1,21 @@
--- A reader whose first octets were taken, and which gives them again. Nothing here is of a standard: all of
--- it is our choice.
+-- A reader whose first octets were taken, and which gives these again. Nothing here is from a standard: all of it is
+-- our choice.
 use Rattle.std.specs.Prelude.{◌≡◌, ℕ, suc, ◌-◌, if◌then◌else◌, ◌||◌, nat_le, Bool, true, false, List, [], ◌++◌}
 use Rattle.std.specs.Prelude.{length, refl}
 use Rattle.rs_mrt.specs.Reader.{ReadEnd, FileEnds, ReadFails, SomethingIsGiven}
 
--- octets that were taken of a reader, and whether it has no more
+-- octets that were taken from a reader, and whether the reader has no more
 pub record Taken : Type 0 where
   pub octets : List ℕ
   pub ended : Bool
 
--- the octets that were taken and not yet given again, whether the reader has no more, and the reader
+-- the octets that were taken and not given again yet, whether the reader has no more, and the reader
 pub record Rewound (R : Type 0) : Type 0 where
   pub held : List ℕ
   pub ended : Bool
   pub inner : R
 
--- what may come of a reader that may have no more
+-- the octets that may come from a reader that perhaps has no more
 abbrev pub GivesUnlessEnded : {R : Type 0} → (R → List ℕ → ReadEnd → Type 0) → Bool → R → List ℕ → ReadEnd → Type 0
 GivesUnlessEnded gives true inner octets end = (octets ≡ []) × (end ≡ FileEnds)
 GivesUnlessEnded gives false inner octets end = gives inner octets end
@@ -32,7 +32,7 @@ unless_ended : {R : Type 0} (gives : R → List ℕ → ReadEnd → Type 0) (end
 unless_ended gives true inner some = ([], FileEnds, (refl, refl))
 unless_ended gives false inner some = some
 
--- something always may
+-- there is always something that may come
 pub rewound_may_come : {R : Type 0} (gives : R → List ℕ → ReadEnd → Type 0)
     → ((inner : R) → SomethingIsGiven (gives inner))
     → (whole : Rewound R) → SomethingIsGiven (RewoundGives gives whole)
@@ -40,28 +40,28 @@ rewound_may_come gives some whole =
     let inner = unless_ended gives whole.ended whole.inner (some whole.inner) in
     (whole.held ++ inner.0, inner.1, record { later = inner.0; splits = refl; given = inner.2 })
 
--- nothing was given again yet
+-- no taken octet was given again yet
 abbrev pub rewound : {R : Type 0} → Taken → R → Rewound R
 rewound front inner = record { held = front.octets; ended = front.ended; inner = inner }
 
--- how many octets tell whether a file is compressed
+-- how many octets show whether a file is compressed
 abbrev pub front_len : ℕ
 front_len = 6
 
--- how many there is room for
+-- how many octets there is room for
 abbrev pub room_len : ℕ
 room_len = 12
 
--- so many were taken, or the reader has no more
+-- so many octets were taken, or the reader has no more
 abbrev pub is_done : Taken → Bool
 is_done front = front.ended || nat_le front_len (length front.octets)
 
--- how many octets are wanted at most before that: none of a reader without more, and else one for its end too
+-- how many more octets are wanted at most; one is added so that the end of the reader is found
 abbrev pub octets_wanted : Taken → ℕ
 octets_wanted front = if front.ended then 0 else suc (front_len - length front.octets)
 
--- Whatever may come of the octets that were taken and then the reader might come of the reader before, and a
--- reader without more is only found at the end of its octets.
+-- Whatever may come of the taken octets and then of the reader, might have come of the reader before. If the reader
+-- has no more, the octets that were taken may be all.
 abbrev pub IsFrontOf : {R : Type 0} → (R → List ℕ → ReadEnd → Type 0) → R → R → Taken → Type 0
 IsFrontOf gives old new front =
     (octets : List ℕ) → (end : ReadEnd) → RewoundGives gives (rewound front new) octets end → gives old octets end
@@ -70,7 +70,7 @@ IsFrontOf gives old new front =
 abbrev pub ReadMayFail : {R : Type 0} → (R → List ℕ → ReadEnd → Type 0) → R → Type 0
 ReadMayFail gives reader = (octets : List ℕ) × gives reader octets ReadFails
 
--- one call took more
+-- one call took more octets
 abbrev pub TakesMore : {R : Type 0} → (R → List ℕ → ReadEnd → Type 0) → (R → ℕ) → Taken → R → Taken → R → Type 0
 TakesMore gives failures front old more new =
     ((octets : List ℕ) → (end : ReadEnd) → RewoundGives gives (rewound more new) octets end

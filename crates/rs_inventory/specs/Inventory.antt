@@ -1,4 +1,4 @@
--- What the records of a file hold, all of them.
+-- The content of a file: what all its records are.
 use Rattle.std.specs.Prelude.{◌≡◌, ℕ, ◌+◌, Bool, if◌then◌else◌, List, [], ◌∷◌, ◌++◌, length, map}
 use Rattle.std.specs.Prelude.{min, max, slice_index, Option, Some, None, count_by, filter_map}
 use Rattle.std.specs.BTreeMap.{is_at}
@@ -24,7 +24,7 @@ use Rattle.rs_inventory.specs.declared.peer.Peer.{Peer}
 abbrev pub peer_cmp : Peer → Peer → Ordering
 peer_cmp one other = ordering_then (nat_cmp one.address other.address) (nat_cmp one.asn other.asn)
 
--- what is known of a file: `kinds` has a count at the place of each kind, `peers` the peers in ascending order
+-- the content of a file: `kinds` has a count at the place of each kind, and `peers` are in ascending order
 pub record Content : Type 0 where
   pub compression : Option Compression
   pub end : Option MrtFault
@@ -39,32 +39,33 @@ pub record Content : Type 0 where
 
 -- ---- peers
 
--- two peers are the same
+-- whether two peers are the same
 abbrev pub same_peer : Peer → Peer → Bool
 same_peer = eq_by_cmp peer_cmp
 
--- what a record tells of a peer
+-- the meaning of a record for a peer, if it has one
 abbrev pub told_in : Peer → ℕ → Option Note → Option Told
 told_in peer time None = None
 told_in peer time (Some note) = if same_peer note.peer peer then Some (time, note.news) else None
 
--- what all records tell of a peer
+-- the meaning of all records for a peer
 abbrev pub told_of : Peer → List Finding → List Told
 told_of peer findings = filter_map (λ f. told_in peer f.time f.note) findings
 
--- a peer is known where a record tells of it
+-- a peer is known if some record has a meaning for it
 abbrev pub known_of : List Told → Option PeerContent
 known_of [] = None
 known_of (one ∷ later) = Some (peer_content (one ∷ later))
 
--- what is known of a peer
+-- the content for a peer
 abbrev pub peer_at : List (Peer × PeerContent) → Peer → Option PeerContent
 peer_at peers peer = lookup (is_at (peer_cmp peer)) peers
 
 -- ---- all records
 
--- what these records hold is this: as many records, as many of each kind, their earliest and latest times,
--- their octets, where times go back, the first recorder that is named, and of each peer what its records say
+-- The content of these records: how many they are, how many of each kind, their earliest and latest times, and their
+-- octets. It also has where times go back, the first recorder that is named, and for each peer the content of its
+-- records.
 pub record Holds (findings : List Finding) (content : Content) : Type 0 where
   pub records : content.records ≡ counted (length findings)
   pub kinds : (kind : Kind)
@@ -76,46 +77,46 @@ pub record Holds (findings : List Finding) (content : Content) : Type 0 where
   pub recorder : content.recorder ≡ first_found (λ f. f.recorder) findings
   pub peers : (peer : Peer) → peer_at content.peers peer ≡ known_of (told_of peer findings)
 
--- nothing is held: no record of any kind, no time, no octet, no recorder, no peer, and no end within a record
+-- the content of no records: no kind, time, octet, recorder or peer, and no end within a record
 abbrev pub HoldsNothing : Content → Type 0
 HoldsNothing content = Holds [] content × (content.end ≡ None)
 
--- whatever records held this, with one record more they hold that
+-- one more record turns the old content into the new one, whatever the records before are
 abbrev pub TakesFinding : Content → Finding → Content → Type 0
 TakesFinding old one new = (findings : List Finding) → Holds findings old → Holds (findings ++ one ∷ []) new
 
--- ---- one record more
+-- ---- one more record
 
--- what is known of each peer becomes what it is with what one record more tells of it
+-- one more record turns the old content for each peer into the new one
 abbrev pub TakesNote : List (Peer × PeerContent) → ℕ → Option Note → List (Peer × PeerContent) → Type 0
 TakesNote old time note new = (peer : Peer) → (told : List Told) → peer_at old peer ≡ known_of told
     → peer_at new peer ≡ known_of (told ++ cons_option (told_in peer time note) [])
 
--- the earliest time with one more
+-- the earliest time, after one more record
 abbrev pub earlier_of : Option ℕ → ℕ → ℕ
 earlier_of None time = time
 earlier_of (Some first) time = min first time
 
--- the latest time with one more
+-- the latest time, after one more record
 abbrev pub later_of : Option ℕ → ℕ → ℕ
 later_of None time = time
 later_of (Some last) time = max last time
 
--- the sum of the octets with those of one record more, where both are known
+-- the number of octets after one more record; None if one of the two numbers is not known
 abbrev pub sum_of : Option ℕ → Option ℕ → Option ℕ
 sum_of None other = None
 sum_of (Some n) other = option_map (λ m. counted (n + m)) other
 
--- the first that there is of two
+-- the first of two answers, if there is one
 abbrev pub first_of : {X : Type 0} → Option X → Option X → Option X
 first_of None other = other
 first_of (Some x) other = Some x
 
--- where times go back with one record more
+-- where times go back, after one more record
 abbrev pub with_back : Finding → Content → Content
 with_back one old = record old { back = first_back old.back (back_behind old.last one.time old.records old.octets) }
 
--- the counts and times with one record more
+-- the counts and times after one more record
 pub record WithCounts (one : Finding) (old new : Content) : Type 0 where
   pub compression : new.compression ≡ old.compression
   pub end : new.end ≡ old.end

@@ -1,4 +1,4 @@
--- What kind of record it is (RFC 6396, sections 4.3 and 4.4; RFC 8050, section 3).
+-- The kind of a record (RFC 6396, sections 4.3 and 4.4; RFC 8050, section 3).
 use Rattle.std.specs.Prelude.{ℕ, ◌==◌, ◌&&◌, ◌||◌, nat_lt, nat_le, Bool, if◌then◌else◌, List, length, drop, Option}
 use Rattle.std.specs.Prelude.{Some, None, codes}
 use Rattle.byteorder.specs.Endian.{big_number}
@@ -40,12 +40,12 @@ kind_name kinds.TableDumpV2 = codes "not read: TABLE_DUMP_V2"
 kind_name kinds.CutShort = codes "shorter than their fields"
 kind_name kinds.Other = codes "not read: others"
 
--- whether a kind is this one
+-- whether two kinds are the same
 abbrev pub is_kind : Kind → Kind → Bool
 is_kind one other = place_of one == place_of other
 
--- the fields of a record of a session: of Type BGP4MP_ET they stand behind the microseconds (RFC 6396,
--- sections 3 and 4.5)
+-- the fields of a record of a session; for Type BGP4MP_ET they are behind the microseconds (RFC 6396, sections 3 and
+-- 4.5)
 abbrev pub fields_of : MrtRecord → Option (List ℕ)
 fields_of r =
     if r.kind == type_bgp4mp then Some r.body
@@ -57,8 +57,8 @@ fields_of r =
 abbrev pub is_ipv6 : List ℕ → Bool
 is_ipv6 fields = nat_le family_end (length fields) && (big_number 2 (drop family_place fields) == 2)
 
--- the kind of a record of a session, by its Subtype: 0 and 1 with two-octet AS numbers (RFC 6396, sections
--- 4.4.1 and 4.4.2), 8 to 11 with ADD-PATH (RFC 8050, section 3), 4 and 5 of an IPv6 peer
+-- The kind of a record of a session, by its Subtype: 0 and 1 with two-octet AS numbers (RFC 6396, sections 4.4.1 and
+-- 4.4.2), 8 to 11 with ADD-PATH (RFC 8050, section 3). Subtypes 4 and 5 may be of an IPv6 peer.
 abbrev pub session_kind : ℕ → Option (List ℕ) → Kind
 session_kind subtype None = kinds.Other
 session_kind subtype (Some fields) =

@@ -1,4 +1,4 @@
--- What the records of one peer say.
+-- The content of the records of one peer.
 use Rattle.std.specs.Prelude.{◌≡◌, ℕ, ◌==◌, ◌^◌, ◌+◌, ◌-◌, min, Bool, true, false, if◌then◌else◌, List, [], ◌∷◌, ◌++◌}
 use Rattle.std.specs.Prelude.{length, slice_get, Option, Some, None, sum_by, count_by, filter_map}
 use Rattle.rs_inventory.specs.Course.{course_of, course_with}
@@ -12,7 +12,7 @@ use Rattle.rs_inventory.specs.declared.sessions.SessionTimes.{SessionTimes}
 abbrev pub counted : ℕ → ℕ
 counted n = min n (2 ^ 64 - 1)
 
--- it is a message of a session with four-octet AS numbers
+-- whether a record is a message of a session with four-octet AS numbers
 abbrev pub is_message : News → Bool
 is_message news.Up = false
 is_message news.Down = false
@@ -20,19 +20,19 @@ is_message news.State = false
 is_message (news.TwoOctetOpen identifier) = false
 is_message other = true
 
--- it is a change of state
+-- whether a record is a change of state
 abbrev pub is_state_change : News → Bool
 is_state_change news.Up = true
 is_state_change news.Down = true
 is_state_change news.State = true
 is_state_change other = false
 
--- it is a message with a fault
+-- whether a record is a message with a fault
 abbrev pub is_faulty : News → Bool
 is_faulty news.Faulty = true
 is_faulty other = false
 
--- how many prefixes it announces, and withdraws
+-- how many prefixes a record announces, and below, how many it withdraws
 abbrev pub announced_by : News → ℕ
 announced_by (news.Update announced withdrawn) = announced
 announced_by other = 0
@@ -41,30 +41,30 @@ abbrev pub withdrawn_by : News → ℕ
 withdrawn_by (news.Update announced withdrawn) = withdrawn
 withdrawn_by other = 0
 
--- the BGP Identifier that it tells
+-- the BGP Identifier in a record
 abbrev pub identifier_in : News → Option ℕ
 identifier_in (news.Open identifier) = Some identifier
 identifier_in (news.TwoOctetOpen identifier) = Some identifier
 identifier_in other = None
 
--- what it says of a session: a NOTIFICATION ends one too (RFC 4271, section 6.4)
+-- what a record says of a session; a NOTIFICATION ends a session too (RFC 4271, section 6.4)
 abbrev pub event_at : ℕ → News → Option Event
 event_at time news.Notification = Some (Down time)
 event_at time news.Up = Some (Up time)
 event_at time news.Down = Some (Down time)
 event_at time other = None
 
--- whether a number is this one
+-- whether there is a number, and it is this one
 abbrev pub is_same : Option ℕ → ℕ → Bool
 is_same None n = false
 is_same (Some m) n = m == n
 
--- the numbers that differ from the one before, which is `before` at the first
+-- the numbers that differ from the one before; `before` stands before the first
 abbrev pub changing : Option ℕ → List ℕ → List ℕ
 changing before [] = []
 changing before (n ∷ later) = if is_same before n then changing (Some n) later else n ∷ changing (Some n) later
 
--- what is known of a peer
+-- the content of a peer's records
 pub record PeerContent : Type 0 where
   pub messages : ℕ
   pub state_changes : ℕ
@@ -75,11 +75,11 @@ pub record PeerContent : Type 0 where
   pub sessions : List SessionTimes
   pub course : Course
 
--- what a record says of a peer, with its Timestamp
+-- the meaning of a record for a peer, with its Timestamp
 abbrev pub Told : Type 0
 Told = ℕ × News
 
--- what the records of a peer say, all of them
+-- the content of all records of a peer
 unfoldable pub peer_content : List Told → PeerContent
 peer_content told = record {
   messages = counted (count_by (λ t. is_message t.1) told);
@@ -92,18 +92,18 @@ peer_content told = record {
   course = course_of told;
 }
 
--- whatever records said this, with one record more they say that
+-- one more record turns the old content into the new one, whatever the records before are
 abbrev pub TellsMore : PeerContent → ℕ → News → PeerContent → Type 0
 TellsMore old time one new =
     (told : List Told) → old ≡ peer_content told → new ≡ peer_content (told ++ (time, one) ∷ [])
 
--- ---- one record more
+-- ---- one more record
 
--- what a record adds to a count where a test passes
+-- what a record adds to a count, by whether it passes a test
 abbrev pub one_if : Bool → ℕ
 one_if b = if b then 1 else 0
 
--- the counts with one record more
+-- the counts after one more record
 abbrev pub with_counts : News → PeerContent → PeerContent
 with_counts one p = record p {
   messages = counted (p.messages + one_if (is_message one));
@@ -113,25 +113,25 @@ with_counts one p = record p {
   withdrawn = counted (p.withdrawn + withdrawn_by one);
 }
 
--- the numbers with one more, where there is one that differs from the last
+-- the numbers with one more, if there is one that differs from the last
 abbrev pub with_next : List ℕ → Option ℕ → List ℕ
 with_next numbers None = numbers
 with_next numbers (Some n) = if is_same (slice_get numbers (length numbers - 1)) n then numbers else numbers ++ n ∷ []
 
--- the BGP Identifiers with one record more
+-- the BGP Identifiers after one more record
 abbrev pub with_identifier : News → PeerContent → PeerContent
 with_identifier one p = record p { identifiers = with_next p.identifiers (identifier_in one) }
 
--- the sessions with one event more, where there is one
+-- the sessions after one more event, if there is one
 abbrev pub with_event : Option Event → List SessionTimes → List SessionTimes
 with_event None sessions = sessions
 with_event (Some (Up time)) sessions = sessions ++ record { up = Some time; down = None } ∷ []
 with_event (Some (Down time)) sessions = with_end time sessions
 
--- the sessions with one record more
+-- the sessions after one more record
 abbrev pub with_session : ℕ → News → PeerContent → PeerContent
 with_session time one p = record p { sessions = with_event (event_at time one) p.sessions }
 
--- how they go on with one record more
+-- how the records begin and go on, after one more record
 abbrev pub with_course : ℕ → News → PeerContent → PeerContent
 with_course time one p = record p { course = course_with time one p.course }

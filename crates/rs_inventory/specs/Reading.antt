@@ -15,13 +15,13 @@ use Rattle.rs_inventory.specs.declared.depth.Depth.TheVariants.{Outline, Whole}
 use Rattle.rs_inventory.specs.declared.peer.Peer.{Peer}
 use Rattle.rs_inventory.specs.declared.finding.Finding.{Finding}
 
--- octets may come of a reader that begin as those of a file which is compressed so
+-- a reader may give octets that begin like a file compressed in this way
 abbrev pub MayBeCompressed : {R : Type 0} → (R → List ℕ → ReadEnd → Type 0) → R → Option Compression → Type 0
 MayBeCompressed gives reader compression =
     (octets : List ℕ) × (end : ReadEnd) × gives reader octets end × (compression_of octets ≡ compression)
 
--- it is what these records hold, which may come, all of them, where messages are read so deep, and it says how the
--- records end
+-- These records may be all that come. The inventory has their content, with messages read so deep, and says how the
+-- records end.
 pub record IsReadingOf {S : Type 0} (depth : Depth)
     (comes : S → List MrtRecord → Option SourceFault → Type 0) (source : S)
     (content : Content) : Type 0 where
@@ -29,20 +29,20 @@ pub record IsReadingOf {S : Type 0} (depth : Depth)
   pub come : comes source records (source_end content.end)
   pub holds : Holds (map (finding_of depth) records) content
 
--- the inventory of a source: its messages are read whole
+-- the inventory of a source, with messages read whole
 abbrev pub IsInventoryOf : {S : Type 0} → (S → List MrtRecord → Option SourceFault → Type 0) → S → Content → Type 0
 IsInventoryOf comes source content = IsReadingOf Whole comes source content
 
--- the outline of a source: of its messages only the types are read, and of recorders the one counts that is asked for
+-- the outline of a source: of messages only the types are read, and only one recorder is looked for
 abbrev pub IsOutlineOf : {S : Type 0} → Option Peer → (S → List MrtRecord → Option SourceFault → Type 0) → S → Content
     → Type 0
 IsOutlineOf recorder comes source content = IsReadingOf (Outline recorder) comes source content
 
--- records may come, and after them a failed read
+-- records may come, and then a failed read
 abbrev pub MayFail : {S : Type 0} → (S → List MrtRecord → Option SourceFault → Type 0) → S → Type 0
 MayFail comes source = (records : List MrtRecord) × comes source records (Some Read)
 
--- these records came so far, with whatever may still come behind them, and this is what they hold
+-- These records came so far, and others may still come behind them. This is the content of those that came.
 pub record Going {S : Type 0} (depth : Depth)
     (comes : S → List MrtRecord → Option SourceFault → Type 0) (initial now : S)
     (content : Content) : Type 0 where
@@ -51,7 +51,8 @@ pub record Going {S : Type 0} (depth : Depth)
       → comes initial (done ++ later) fault
   pub holds : Holds (map (finding_of depth) done) content
 
--- the next record may come, with whatever may come after it, and this is what it adds; or none may, and they end so
+-- Some finding: the next record may come, and this is what it adds. None: no record may come, and the records end
+-- so.
 abbrev pub GivesFinding : {S : Type 0} → Depth → (S → List MrtRecord → Option SourceFault → Type 0) → S → S
     → Option MrtFault → Option Finding → Type 0
 GivesFinding depth comes old new end (Some finding) =

@@ -4,19 +4,19 @@ use Rattle.std.specs.Option.{option_map}
 
 -- ---- times
 
--- the earliest of these times, where there are any
+-- the earliest of these times, if there are any
 abbrev pub IsEarliest : List ℕ → Option ℕ → Type 0
 IsEarliest times None = times ≡ []
 IsEarliest times (Some time) = Contains times time × All (λ other. time ≤ other) times
 
--- the latest of these times, where there are any
+-- the latest of these times, if there are any
 abbrev pub IsLatest : List ℕ → Option ℕ → Type 0
 IsLatest times None = times ≡ []
 IsLatest times (Some time) = Contains times time × All (λ other. other ≤ time) times
 
 -- ---- octets
 
--- the sum of numbers, where each is known
+-- the sum of numbers, if each is known
 abbrev pub known_sum : List (Option ℕ) → Option ℕ
 known_sum [] = Some 0
 known_sum (None ∷ later) = None

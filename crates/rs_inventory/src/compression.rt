@@ -20,7 +20,7 @@ pub enum Compression {
     Zstd,
 }
 
-/// How many octets of a file tell whether it is compressed.
+/// How many octets of a file show whether it is compressed.
 pub(crate) const FRONT: usize = 6;
 
 // How files begin that gzip, xz and zstd make.
@@ -40,7 +40,7 @@ const BZIP2_BLOCK_AT: usize = 4;
 const BZIP2_LEVEL_AT: usize = 3;
 
 impl Compression {
-    /// How a file is compressed that begins with these octets; none where it isn't. Six octets suffice.
+    /// How a file is compressed that begins with these octets; none if it isn't. Six octets suffice.
     pub fn of(front: &[u8]) -> Option<Compression>
         ensures { result ≡ compression_of front.now }
     {

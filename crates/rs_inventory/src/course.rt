@@ -1,8 +1,8 @@
-//! How the records of a peer begin and go on: whether routes may have been announced before them, and whether a session
-//! began again without a recorded loss (RFC 4271, sections 4 and 8; RFC 6396, section 4.4.4).
+//! How the records of a peer begin and go on: whether routes may have been announced before them, and whether a
+//! session began again without a recorded loss. It follows RFC 4271, sections 4 and 8, and RFC 6396, section 4.4.4.
 //!
-//! Our choices: a session begins with an OPEN or with a change to Established; an UPDATE shows that it is up; a change
-//! from Established or a NOTIFICATION is its loss.
+//! Our choices: a session begins with an OPEN or with a change to Established. An UPDATE shows that it is up. A
+//! change from Established or a NOTIFICATION is its loss.
 
 ghost use Rattle.std.specs.Prelude.{◌≡◌, []};
 ghost use Rattle.rs_inventory.specs.Course.{begins, course_of, course_with, is_loss, is_start, shows_up};
@@ -12,9 +12,9 @@ use crate::finding::News;
 /// How the records of a peer begin and go on. Times are in seconds since 1970.
 #[derive(Clone, Copy, Debug, PartialEq, Eq)]
 pub struct Course {
-    /// The Timestamp of the first record; none where there is none.
+    /// The Timestamp of the first record; none if there is none.
     pub first: Option<u32>,
-    /// The Timestamp of the last record; none where there is none.
+    /// The Timestamp of the last record; none if there is none.
     pub last: Option<u32>,
     /// Whether the first record is neither an OPEN nor a change of state: the recording begins in mid-session, and
     /// routes that were announced before are missing.
@@ -40,7 +40,7 @@ impl Course {
         }
     }
 
-    /// The same with one record more, of a time.
+    /// The course of a peer after one more record, of this time.
     pub(crate) fn with(self, time: u32, news: News) -> Course
         ensures { result ≡ course_with time news self }
     {

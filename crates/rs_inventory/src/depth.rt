@@ -7,6 +7,6 @@ use crate::peer::Peer;
 pub(crate) enum Depth {
     /// Whole.
     Whole,
-    /// No more than their types. Where a recorder is given, no other one counts.
+    /// No more than their types. If a recorder is given, no other one counts.
     Outline(Option<Peer>),
 }

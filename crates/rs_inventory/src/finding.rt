@@ -27,10 +27,10 @@ pub(crate) struct Finding {
     pub time: u32,
     /// What kind of record it is.
     pub kind: Kind,
-    /// How many octets it has, its header counted; none where it is longer than any of a session, so that not all are
+    /// How many octets it has, its header counted; none if it is longer than any of a session, so that not all are
     /// there.
     pub octets: Option<u64>,
-    /// Who recorded it, where it is a message of a session with four-octet AS numbers.
+    /// Who recorded it, if it is a message of a session with four-octet AS numbers.
     pub recorder: Option<Peer>,
     /// What it says of a peer.
     pub note: Option<Note>,
@@ -97,7 +97,7 @@ const PEER_AT: usize = 8;
 const MESSAGE_AT: usize = 16;
 
 impl Finding {
-    /// What a record adds, where messages are read so deep. Refused, nothing is known of it.
+    /// What a record adds, if messages are read so deep. If memory is refused, nothing is known of the record.
     pub(crate) fn of(
         alloc: Global,
         record: &Record<'_>,
@@ -162,7 +162,7 @@ impl Note {
     }
 }
 
-// How many octets a record has; none where it may be that not all are there.
+// How many octets a record has; none if it may be that not all are there.
 fn octets_of(record: &Record<'_>) -> Option<u64>
     ensures { result ≡ known_octets «record».now.body.now }
 {
@@ -174,7 +174,7 @@ fn octets_of(record: &Record<'_>) -> Option<u64>
 }
 
 /// Who recorded a session with four-octet AS numbers: the Local IP Address and the Local AS of its record (RFC 6396,
-/// sections 4.4.3 and 4.4.4). None where the record is of no session or is shorter than these fields.
+/// sections 4.4.3 and 4.4.4). None if the record is of no session or is shorter than these fields.
 pub fn recorder(record: &Record<'_>) -> Option<Peer>
     ensures { result ≡ recorder_in (fields_of (record_of «record».now)) }
 {
@@ -188,7 +188,7 @@ pub fn recorder(record: &Record<'_>) -> Option<Peer>
     })
 }
 
-// The recorder, where it counts.
+// The recorder, if it counts.
 fn recorder_at(depth: Depth, found: Option<Peer>) -> Option<Peer>
     ensures { result ≡ recorder_at depth found }
 {
@@ -198,7 +198,7 @@ fn recorder_at(depth: Depth, found: Option<Peer>) -> Option<Peer>
     }
 }
 
-// The recorder, where it is the one that is asked for, if one is.
+// The recorder, if it is the one that is asked for; any one if none is asked for.
 fn where_asked(asked: Option<Peer>, found: Option<Peer>) -> Option<Peer>
     ensures { result ≡ where_asked asked found }
 {
@@ -213,14 +213,14 @@ fn where_asked(asked: Option<Peer>, found: Option<Peer>) -> Option<Peer>
     }
 }
 
-// Whether two peers are the same.
+// Whether two peers are equal.
 fn is_peer(one: Peer, other: Peer) -> bool
     ensures { result ≡ is_peer one other }
 {
     one.address == other.address && one.asn == other.asn
 }
 
-// What a message is, and what it says of its sender, where it is read so deep.
+// What a message is, and what it says of its sender, if it is read so deep.
 fn news_at(alloc: Global, octets: &[u8], depth: Depth) -> Result<(Kind, News), AllocError>
     ensures kind { IfOk result (λ (kind, news). kind ≡ kind_at depth octets.now) }
     ensures news { IfOk result (λ (kind, news). news ≡ news_at depth octets.now) }

@@ -34,7 +34,7 @@ impl Model for Front {
 }
 
 impl Front {
-    /// Takes the first octets of a reader, as many as tell whether it is compressed; fewer where it has fewer.
+    /// Takes the first octets of a reader, as many as show whether it is compressed, or fewer if it has fewer.
     pub(crate) fn of<R: Read>(reader: &mut R) -> Result<Front, Failed>
         requires { R.failures reader.old < u64.MAX }
         ensures gives { IfOk result (IsFrontOf R.gives reader.old reader.new) }
@@ -74,7 +74,7 @@ impl Front {
         Ok(())
     }
 
-    // Adds the octets of a call: none where the reader was at its end.
+    // Adds the octets of a call: none if the reader was at its end.
     fn add(&mut self, octets: &[u8])
         requires before { length self.old.octets < front_len }
         requires more { length octets.now ≤ front_len }

@@ -30,7 +30,7 @@ pub struct Inventory {
     kinds: [u64; KINDS],
     first: Option<u32>,
     last: Option<u32>,
-    // How many octets the whole records have, where that is known.
+    // How many octets the whole records have, if that is known.
     octets: Option<u64>,
     back: Option<Back>,
     recorder: Option<Peer>,
@@ -90,7 +90,7 @@ impl Inventory {
     /// Takes the next record as `read_outline` does: of its message no more than the type is read. Answers who recorded
     /// it, if it is a message of a session with four-octet AS numbers.
     ///
-    /// Fails if memory is refused. Then the inventory may lack a part of the record.
+    /// Then the inventory may lack a part of the record.
     pub fn take_outline(
         &mut self,
         alloc: Global,
@@ -149,14 +149,14 @@ impl Inventory {
         self.recorder = first_known(self.recorder, finding.recorder);
     }
 
-    /// How the file is compressed; none where it isn't. Of a compressed file no record is read.
+    /// How the file is compressed; none if it isn't. Of a compressed file no record is read.
     pub fn compression(&self) -> Option<Compression>
         ensures { result ≡ self.now.compression }
     {
         self.compression
     }
 
-    /// In which part of a record the file ends; none where it ends after whole records.
+    /// In which part of a record the file ends; none if it ends after whole records.
     pub fn end(&self) -> Option<MrtFault>
         ensures { result ≡ self.now.end }
     {
@@ -177,21 +177,21 @@ impl Inventory {
         self.kinds[kind.place()]
     }
 
-    /// The earliest Timestamp, in seconds since 1970; none where there is no record.
+    /// The earliest Timestamp, in seconds since 1970; none if there is no record.
     pub fn first(&self) -> Option<u32>
         ensures { result ≡ self.now.first }
     {
         self.first
     }
 
-    /// The latest Timestamp, in seconds since 1970; none where there is no record.
+    /// The latest Timestamp, in seconds since 1970; none if there is no record.
     pub fn last(&self) -> Option<u32>
         ensures { result ≡ self.now.last }
     {
         self.last
     }
 
-    /// How many octets the whole records have together: none where one is longer than any of a session, since of such
+    /// How many octets the whole records have together: none if one is longer than any of a session, since of such
     /// a one not all octets are kept.
     pub fn octets(&self) -> Option<u64>
         ensures { result ≡ self.now.octets }
@@ -199,7 +199,7 @@ impl Inventory {
         self.octets
     }
 
-    /// Where times go back by more than a minute the first time; none where they don't.
+    /// Where times go back by more than a minute the first time; none if they don't.
     pub fn back(&self) -> Option<Back>
         ensures { result ≡ self.now.back }
     {
@@ -248,7 +248,7 @@ fn first_records(alloc: Global, time: u32, news: News) -> Result<PeerRecords, Al
     Ok(records)
 }
 
-// The earlier of two times, where there are two.
+// The earlier of two times, if there are two.
 fn earlier(first: Option<u32>, time: u32) -> u32
     ensures { result ≡ earlier_of first time }
 {
@@ -258,7 +258,7 @@ fn earlier(first: Option<u32>, time: u32) -> u32
     }
 }
 
-// The later of two times, where there are two.
+// The later of two times, if there are two.
 fn later(last: Option<u32>, time: u32) -> u32
     ensures { result ≡ later_of last time }
 {
@@ -268,7 +268,7 @@ fn later(last: Option<u32>, time: u32) -> u32
     }
 }
 
-// The recorder that was found first, where one was.
+// The recorder that was found first, if one was.
 fn first_known(before: Option<Peer>, found: Option<Peer>) -> Option<Peer>
     ensures { result ≡ first_of before found }
 {
@@ -278,7 +278,7 @@ fn first_known(before: Option<Peer>, found: Option<Peer>) -> Option<Peer>
     }
 }
 
-// The sum of two numbers, where both are known.
+// The sum of two numbers, if both are known.
 fn sum(one: Option<u64>, other: Option<u64>) -> Option<u64>
     ensures { result ≡ sum_of one other }
 {

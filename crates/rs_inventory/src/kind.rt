@@ -153,7 +153,7 @@ impl Kind {
     }
 }
 
-/// The fields of a record of a session, behind the microseconds; none where the record is of another Type, or shorter
+/// The fields of a record of a session, behind the microseconds; none if the record is of another Type, or shorter
 /// than these.
 pub(crate) fn session_fields<'a>(record: &Record<'a>) -> Option<&'a [u8]>
     ensures { option_map (λ fields. fields.now) result ≡ fields_of (record_of «record».now) }

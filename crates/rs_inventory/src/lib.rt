@@ -5,6 +5,8 @@
 //! `opening` (what an OPEN tells). Then what one record adds: `depth`, `finding` and `outline`. Then what is known of one
 //! peer: `sessions`, `course` and `peer`. Then what is known of one file: `back` (where its times go back) and
 //! `inventory`. Last how a file is read: `front` and `reading`.
+//!
+//! A call that allocates fails if memory is refused.
 #![tactic(auto)]
 
 mod back;

@@ -1,5 +1,5 @@
-//! What an OPEN tells of its sender: its BGP Identifier, and its AS number of four octets (RFC 4271, section 4.2; RFC
-//! 6793, section 3; RFC 5492, section 4).
+//! The BGP Identifier and the AS number of four octets in an OPEN (RFC 4271, section 4.2; RFC 6793, section 3; RFC
+//! 5492, section 4).
 
 ghost use Rattle.std.specs.Prelude.{◌≡◌};
 ghost use Rattle.std.specs.Option.{option_map};
@@ -31,7 +31,7 @@ struct Item<'a> {
     value: &'a [u8],
 }
 
-/// The BGP Identifier of an OPEN, as a number in host order; 0 where the octets are fewer.
+/// The BGP Identifier of an OPEN, as a number in host order; 0 if the octets are fewer.
 pub(crate) fn identifier(octets: &[u8]) -> u32
     ensures { result ≡ identifier_of octets.now }
 {
@@ -41,7 +41,7 @@ pub(crate) fn identifier(octets: &[u8]) -> u32
     BigEndian::read_u32(&octets[IDENTIFIER_AT..])
 }
 
-/// The AS number of four octets that an OPEN tells by a capability; none where it tells none.
+/// The AS number of four octets in a capability of an OPEN; None if there is none.
 pub(crate) fn four_octet_as(octets: &[u8]) -> Option<u32>
     ensures { result ≡ four_octet_as octets.now }
 {
@@ -51,7 +51,7 @@ pub(crate) fn four_octet_as(octets: &[u8]) -> Option<u32>
     as_of_parameters(&octets[PARAMETERS_AT..])
 }
 
-// The AS number that a list of Optional Parameters tells.
+// The AS number in a list of Optional Parameters.
 fn as_of_parameters(parameters: &[u8]) -> Option<u32>
     ensures { result ≡ first_found as_of_parameter (items_of parameters.now) }
 {
@@ -65,7 +65,7 @@ fn as_of_parameters(parameters: &[u8]) -> Option<u32>
     None
 }
 
-// The AS number that a list of capabilities tells.
+// The AS number in a list of capabilities.
 fn as_of_capabilities(capabilities: &[u8]) -> Option<u32>
     ensures { result ≡ first_found as_of_capability (items_of capabilities.now) }
 {
@@ -79,7 +79,7 @@ fn as_of_capabilities(capabilities: &[u8]) -> Option<u32>
     None
 }
 
-// The AS number that an Optional Parameter tells.
+// The AS number in an Optional Parameter.
 fn as_of_parameter(parameter: Item<'_>) -> Option<u32>
     ensures { result ≡ as_of_parameter (item_of parameter.entry) }
 {
@@ -90,7 +90,7 @@ fn as_of_parameter(parameter: Item<'_>) -> Option<u32>
     }
 }
 
-// The AS number that a capability tells.
+// The AS number in a capability.
 fn as_of_capability(capability: Item<'_>) -> Option<u32>
     ensures { result ≡ as_of_capability (item_of capability.entry) }
 {

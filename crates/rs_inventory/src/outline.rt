@@ -9,7 +9,7 @@ use crate::finding::{Note, kind_of_type, news_of_kind, state_news, two_octet_not
 use rs_mrt::{Entry, Record, entry};
 
 /// What a record says of a peer, as `read_outline` reads it: of a message no more than its type is read, so an UPDATE
-/// counts no prefixes. None where the record names no peer that is read, or is shorter than its fields.
+/// counts no prefixes. None if the record names no peer that is read, or is shorter than its fields.
 pub fn outlined(recorded: &Record<'_>) -> Option<Note>
     ensures { result ≡ outline_note (record_of recorded.now) }
 {

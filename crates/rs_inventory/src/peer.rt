@@ -251,7 +251,7 @@ impl News {
         }
     }
 
-    // The BGP Identifier that it tells.
+    // The BGP Identifier in a record.
     fn identifier(self) -> Option<u32>
         ensures { result ≡ identifier_in self }
     {

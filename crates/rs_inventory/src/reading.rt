@@ -48,7 +48,7 @@ impl From<Failed> for InventoryFault {
 /// Of a compressed one no record is read, so it tells of no record, no peer and no end. Memory is taken for its peers
 /// and their sessions, not for its octets.
 ///
-/// `Read` is answered where a read fails, or 2^50 octets come of the reader; `Memory` where memory is refused.
+/// `Read` is answered if a read fails, or 2^50 octets come of the reader; `Memory` if memory is refused.
 pub fn read_inventory<R: Read + Drop>(alloc: Global, reader: R) -> Result<Inventory, InventoryFault>
     requires { R.failures reader < u64.MAX }
     // It is compressed as octets are that the reader may give.
@@ -58,16 +58,16 @@ pub fn read_inventory<R: Read + Drop>(alloc: Global, reader: R) -> Result<Invent
     // Of a file that isn't it is the inventory of records that the reader may give, to their end.
     ensures records { IfOk result (λ held. held.compression ≡ None
         → IsInventoryOf (MayCome R.gives) (unread reader) held) }
-    // A read is only said to fail where the reader may fail, or give as many octets as are taken of it.
+    // A read is only said to fail if the reader may fail, or give as many octets as are taken of it.
     ensures read { IsErrOf result Read → MayFail (MayCome R.gives) (unread reader) }
 {
     read_at(alloc, reader, Depth::Whole)
 }
 
 /// Reads a recorded file as `read_inventory` does, but of each message only its type: whether it has a fault, and how
-/// many prefixes it lists, isn't told. Where a recorder is given, no other one counts.
+/// many prefixes it lists, isn't told. If a recorder is given, no other one counts.
 ///
-/// `Read` is answered where a read fails, or 2^50 octets come of the reader; `Memory` where memory is refused.
+/// `Read` is answered if a read fails, or 2^50 octets come of the reader; `Memory` if memory is refused.
 pub fn read_outline<R: Read + Drop>(
     alloc: Global,
     reader: R,
@@ -81,7 +81,7 @@ pub fn read_outline<R: Read + Drop>(
     // Of a file that isn't it is the outline of records that the reader may give, to their end.
     ensures records { IfOk result (λ held. held.compression ≡ None
         → IsOutlineOf recorder (MayCome R.gives) (unread reader) held) }
-    // A read is only said to fail where the reader may fail, or give as many octets as are taken of it.
+    // A read is only said to fail if the reader may fail, or give as many octets as are taken of it.
     ensures read { IsErrOf result Read → MayFail (MayCome R.gives) (unread reader) }
 {
     read_at(alloc, reader, Depth::Outline(recorder))
@@ -128,7 +128,7 @@ fn take_records<S: Source + Drop>(
     Ok(inventory)
 }
 
-// Goes to the next record and tells what it adds; where there is none, tells how the records end.
+// Goes to the next record and answers what it adds. If there is none, it answers how the records end.
 fn next_finding<S: Source>(
     alloc: Global,
     source: &mut S,

@@ -14,14 +14,14 @@ use std::marker::Model;
 /// When a session came up and went down, in seconds since 1970.
 #[derive(Clone, Copy, Debug, PartialEq, Eq)]
 pub struct SessionTimes {
-    /// When it came up: none where that isn't recorded.
+    /// When it came up: none if that isn't recorded.
     pub up: Option<u32>,
-    /// When it went down: none where that isn't recorded.
+    /// When it went down: none if that isn't recorded.
     pub down: Option<u32>,
 }
 
 impl SessionTimes {
-    // The session, ended where it has no end.
+    // The session, ended if it has no end.
     fn ended_at(self, time: u32) -> SessionTimes
         ensures { result ≡ ended_at time self }
     {

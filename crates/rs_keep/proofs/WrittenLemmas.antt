@@ -34,7 +34,7 @@ files-count plan files are =
     let name_for : Peer → List ℕ = λ peer. dump_name peer.name in
     sym (length-map files file_name) ∙ ap length are ∙ length-map plan.peers name_for
 
--- what was told of as taken is told whole
+-- the octets that a writer says it has taken are whole
 tells : (kept : Option (List KeptDump)) (old new : Option (List ℕ)) (octets dump : List ℕ) → TellsNothingTaken kept old → octets ≡ dump
     → Appends old new octets → TellsTaken kept new dump
 tells None old new octets dump nothing is appended = tt
@@ -44,7 +44,7 @@ tells (Some kept) (Some before) (Some after) octets dump nothing is appended =
     let none : before ≡ [] = cc in
     ap (λ all. Some all) (appended ∙ ap (λ front. front ++ octets) none ∙ is)
 
--- a list that grows is told on
+-- a list of dumps that grows is still listed
 told-before : (base mid : Option (List KeptDump)) (dumps : List KeptDump) (taken : Option (List ℕ)) (octets : List ℕ) → Grows base mid dumps
     → TellsTaken mid taken octets → TellsTaken base taken octets
 told-before None mid dumps taken octets grown told = tt

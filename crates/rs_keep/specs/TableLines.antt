@@ -1,4 +1,4 @@
--- What the report says of the tables. Nothing here is of a standard: all of it is our choice.
+-- The lines of the report about the tables. Nothing here is from a standard: all of it is our choice.
 use Rattle.std.specs.Prelude.{ℕ, List, ◌++◌, codes, length, map}
 use Rattle.std.specs.Fmt.{decimal}
 use Rattle.std.specs.List.{flat_map, enumerate_from}
@@ -6,10 +6,11 @@ use Rattle.rs_choice.specs.Plan.{Peer}
 use Rattle.rs_table.specs.Content.{TablesContent}
 use Rattle.rs_table.specs.Table.{table_of}
 
--- what it says of a client's table
+-- the line of the report about a client's table
 abbrev pub table_line : List ℕ → ℕ → List ℕ
 table_line name rows = codes "table " ++ (name ++ (codes " rows " ++ (decimal rows ++ codes "\n")))
 
+-- the line of a client's table, by the client's number and its peer
 abbrev pub table_line_of : TablesContent → ℕ × Peer → List ℕ
 table_line_of tables (client, peer) = table_line peer.name (length (table_of tables client))
 
@@ -17,7 +18,7 @@ table_line_of tables (client, peer) = table_line peer.name (length (table_of tab
 abbrev pub table_lines : TablesContent → List ℕ
 table_lines tables = flat_map (table_line_of tables) (enumerate_from 0 tables.plan.peers)
 
--- how many rows the table of each client has, in their order
+-- how many rows a client's table has, and below, for all clients in their order
 abbrev pub row_count_of : TablesContent → ℕ × Peer → ℕ
 row_count_of tables (client, peer) = length (table_of tables client)
 

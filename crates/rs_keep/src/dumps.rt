@@ -1,9 +1,9 @@
-//! The dumps of the clients: some are written beside each other, before each is kept in its turn.
+//! The dumps of the clients: some are written at the same time, before each is kept in its turn.
 //!
-//! Our choices: of an exchange with more than 1,024 prefixes, up to 16 dumps are written beside each other. This
-//! bounds their memory by 1.3 MB. They are fewer where the outlet gives no writer ahead, or memory is refused. The
-//! result of a run is the same: where a dump isn't kept, those behind it are lost. Memory for a dump is taken before
-//! it is started, so that each dump that is started is kept or lost.
+//! Our choices: of an exchange with more than 1,024 prefixes, up to 16 dumps are written at the same time. This
+//! bounds their memory by 1.3 MB. They are fewer if the outlet gives no writer ahead, or if memory is refused; the
+//! result of a run is the same. If a dump isn't kept, those behind it are lost. Memory for a dump is taken before
+//! the dump is started, so that each dump that is started is kept or lost.
 
 ghost use Rattle.std.specs.Prelude.{◌≡◌, ◌+◌, ◌<◌, ◌≤◌, ◌∷◌, [], IfErr, IfNone, IfOk, IfSome, OnErr, OnOk};
 ghost use Rattle.std.specs.Prelude.{length, vec_capacity};
@@ -22,10 +22,10 @@ use std::alloc::{AllocError, Global};
 use std::thread::Threads;
 use std::vec::IntoIter;
 
-// How many dumps are written beside each other.
+// How many dumps are written at the same time.
 const DUMPS_AT_ONCE: usize = 16;
 
-// How many prefixes an exchange has at most whose dumps are written one after another, since that is soon done.
+// The most prefixes of an exchange whose dumps are written one after another, since that is soon done.
 const FEW_PREFIXES: usize = 1024;
 
 // The file in which the dump of a client is kept.
@@ -57,7 +57,7 @@ pub(crate) struct Dumping<'a> {
     pub(crate) time: u32,
 }
 
-// Where no dump is left that was written and not kept, writes those of this client and of some behind it.
+// If no dump is left that was written and not kept, writes those of this client and of some behind it.
 pub(crate) fn refill<'a, T: Threads + Sync, O: Outlet>(
     rt: &T,
     dumping: &Dumping<'a>,
@@ -92,7 +92,7 @@ pub(crate) fn refill<'a, T: Threads + Sync, O: Outlet>(
     Ok(())
 }
 
-// Writes the dump of a client, and those of some behind it beside it.
+// Writes the dump of a client, and at the same time those of some clients behind it.
 fn write_some<'a, T: Threads + Sync, O: Outlet>(
     rt: &T,
     dumping: &Dumping<'a>,
@@ -124,7 +124,7 @@ fn write_some<'a, T: Threads + Sync, O: Outlet>(
     Ok(some)
 }
 
-// How many dumps are written beside each other, that of this client counted.
+// How many dumps are written at the same time, with that of this client.
 fn most_at_once(tables: &Tables, client: usize) -> usize
     requires { client < length tables.now.plan.peers }
     ensures some { 1 ≤ result }
@@ -171,7 +171,7 @@ fn begin<'a, O: Outlet>(
     }
 }
 
-// Begins the dumps behind the one that is begun, which is this client's, until there are so many, or one can't be begun
+// Begins the dumps behind that of this client, which is begun. It ends once there are so many, or one can't be begun
 // ahead of its turn.
 fn begin_behind<'a, O: Outlet>(
     dumping: &Dumping<'a>,
@@ -205,7 +205,7 @@ fn begin_behind<'a, O: Outlet>(
     }
 }
 
-// Begins the dump of a client ahead of its turn, where the outlet gives a writer and there is memory.
+// Begins the dump of a client ahead of its turn, if the outlet gives a writer and there is memory.
 fn begin_ahead<'a, O: Outlet>(
     dumping: &Dumping<'a>,
     client: usize,

@@ -22,10 +22,10 @@ use std::vec::IntoIter;
 /// table to `report`: how many rows it has. Both are in the order of the plan. `time` is the Timestamp of the dumps'
 /// records, in seconds since 1970.
 ///
-/// `Dump` comes where the outlet failed, or the writer of a dump. It also comes where a table has more than
-/// 4,294,967,295 rows. The dumps of the clients before that one are kept. `Memory` comes where memory was refused;
-/// a beginning of the dumps is kept. After each of these faults the report may have some of the lines. Whatever comes,
-/// each writer that the outlet gave is back.
+/// `Dump` is answered if the outlet failed, or the writer of a dump. It is also answered if a table has more than
+/// 4,294,967,295 rows. The dumps of the clients before that one are kept. `Memory` is answered if memory was
+/// refused; the first dumps, or none, are kept. After each of these faults the report may have some of the lines.
+/// After every answer, each writer that the outlet gave is back.
 pub fn keep_dumps<T: Threads + Sync, O: Outlet>(
     rt: &T,
     alloc: Global,

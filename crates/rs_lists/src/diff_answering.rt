@@ -23,7 +23,7 @@ use std::io::Print;
 use std::sync::Wait;
 use std::thread::Threads;
 
-// The status where something differs, as of `diff`.
+// The status if something differs, as of `diff`.
 const DIFFERS: u8 = 1;
 
 // How wide the column of clients is at least.

@@ -52,7 +52,7 @@ pub(crate) enum Change {
     Lost,
     // It gets that of another sender.
     Peer,
-    // It gets that of the same sender with other attributes.
+    // It gets the route of the same sender with other attributes.
     Attributes,
 }
 
@@ -139,7 +139,7 @@ fn hand_side(rows: &mut RowWriter<'_>, side: &str, plan: &Exchange, route: &Rout
     rows.end_row();
 }
 
-// A route as a value of JSON: null where there is none.
+// A route as a value of JSON: null if there is none.
 fn route_value(
     alloc: Global,
     plan: &Exchange,

@@ -125,7 +125,7 @@ fn sender<R: AllocGlobal>(
     }
 }
 
-// Prints rows that were gathered, where they are many.
+// Prints rows that were gathered, if they are many.
 pub(crate) fn print_page<R: Print>(rt: &R, page: &mut String) -> Result<(), Unanswered> {
     if page.len() < PAGE {
         return Ok(());
@@ -135,7 +135,7 @@ pub(crate) fn print_page<R: Print>(rt: &R, page: &mut String) -> Result<(), Unan
     Ok(())
 }
 
-// Prints the rows that were written, where they are many.
+// Prints the rows that were written, if they are many.
 pub(crate) fn print_rows<R: Print>(rt: &R, rows: &mut RowWriter<'_>) -> Result<(), Unanswered> {
     if rows.len() < PAGE {
         return Ok(());

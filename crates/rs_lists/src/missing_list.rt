@@ -1,7 +1,7 @@
 //! Lists the routes that a client does not get. Four threads lay out the rows of some prefixes each, which are then
 //! printed in their order.
 //!
-//! Our choice: where a thread is refused, the calling thread lays out its rows.
+//! Our choice: if a thread is refused, the calling thread lays out its rows.
 
 ghost use Rattle.std.specs.Prelude.{◌<◌, length};
 ghost use Rattle.std.specs.List.{All};

@@ -1,5 +1,5 @@
--- How a reader puts losses in: what it may give, and step by step. Nothing here is of a standard but the records that a
--- file holds (RFC 6396, section 2).
+-- How a reader inserts losses: what it may give, and its steps. Only the records of a file are from a standard here
+-- (RFC 6396, section 2).
 use Rattle.std.specs.Prelude.{◌≡◌, ◌⊎◌, ℕ, ◌+◌, ◌<◌, ◌≤◌, Bool, true, false, ◌&&◌, ◌||◌, if◌then◌else◌, List, []}
 use Rattle.std.specs.Prelude.{◌∷◌, ◌++◌, length, take, drop, Option, Some, None, Result, Ok, Err, refl}
 use Rattle.rs_mrt.specs.Reader.{ReadEnd, FileEnds, ReadFails, SomethingIsGiven}
@@ -16,26 +16,26 @@ use Rattle.rs_losses.specs.declared.losses.Sought.{Sought}
 
 -- ---- the session, record by record
 
--- whether it is up behind a record that says this of the peer
+-- whether the session is up after a record with this meaning for the peer
 abbrev pub up_with : Bool → Option News → Bool
 up_with up None = up
 up_with up (Some news) = if is_loss news then false else shows_up news || up
 
--- the session behind a record that is given
+-- the session after a record that is given
 abbrev pub behind_record : Followed → MrtRecord → Followed
 behind_record f r = record f { up = up_with f.up (news_of (peer_of f.peer) (outline_note r)) }
 
--- the session behind its loss
+-- the session after its loss
 abbrev pub lost : Followed → Followed
 lost f = record f { up = false }
 
--- a loss comes before a record
+-- a loss comes before this record
 abbrev pub is_lost_before : Followed → MrtRecord → Bool
 is_lost_before f r = f.up && tells_of_loss f.peer r
 
 -- ---- the octets
 
--- Octets at whose front these records stand, with the losses put in.
+-- octets that begin with these records, with the losses inserted
 abbrev pub octets_along : Followed → List MrtRecord → List ℕ → List ℕ
 octets_along f [] octets = octets
 octets_along f (r ∷ later) octets =
@@ -45,7 +45,7 @@ octets_along f (r ∷ later) octets =
     ++ octets_along (behind_record (lost f) r) later (drop (octets_of (Some r)) octets))
     else take (octets_of (Some r)) octets ++ octets_along (behind_record f r) later (drop (octets_of (Some r)) octets)
 
--- the octets of a file, with the losses put in
+-- the octets of a file, with the losses inserted
 abbrev pub octets_with : Followed → List ℕ → List ℕ
 octets_with f octets = octets_along f (records_of octets) octets
 
@@ -55,15 +55,16 @@ from_the_first who = record { peer = who; up = false }
 
 -- ---- what a reader may give
 
--- Of a reader whose octets are these and end so, these octets may be given, and end so:
---   those with the losses put in, and the end of the file, where the reader's file ends;
---   a beginning of them, and then a failed read: a call of the reader fails, or memory is refused.
+-- Another reader gives octets and an end. A reader that inserts losses may give these octets and this end:
+-- - The octets with the losses inserted, and then the end of the file, if the other reader ends there.
+-- - A beginning of those octets and then a failed read, if a call of the other reader fails or memory is refused.
 abbrev pub GivenWith : Followed → List ℕ → ReadEnd → List ℕ → ReadEnd → Type 0
 GivenWith f all last octets FileEnds = (octets ≡ octets_with f all) × (last ≡ FileEnds)
 GivenWith f all last octets ReadFails = (n : ℕ) × (octets ≡ take n (octets_with f all))
 
--- the reader, which losses are read, the session behind the octets that are ready to be given, these octets, those that
--- came behind them, whether the octets end behind those that are ready, and how often memory was refused
+-- A reader that inserts losses: the other reader, which losses are read, and the session after the octets that are
+-- ready to be given. It also has these octets, those that came behind them, whether the octets end behind the ready
+-- ones, and how often memory was refused.
 pub record Inserting (R : Type 0) : Type 0 where
   pub reader : R
   pub losses : Losses
@@ -85,7 +86,7 @@ unbegun reader losses who = record {
   refused = 0;
 }
 
--- what may come of the octets that came and those that the reader may give
+-- what may come of the octets that came and of those that the other reader may give
 pub record ComesOf {R : Type 0} (gives : R → List ℕ → ReadEnd → Type 0) (f : Followed) (came : List ℕ) (reader : R)
     (octets : List ℕ) (end : ReadEnd) : Type 0 where
   pub all : List ℕ
@@ -93,21 +94,21 @@ pub record ComesOf {R : Type 0} (gives : R → List ℕ → ReadEnd → Type 0) 
   pub given : gives reader all last
   pub cut : GivenWith f (came ++ all) last octets end
 
--- the same; nothing where the octets end
+-- what may come behind the octets that came; nothing may if the octets end there
 abbrev pub ComesUnlessEnded : {R : Type 0} → (R → List ℕ → ReadEnd → Type 0) → Bool → Followed → List ℕ → R → List ℕ
     → ReadEnd → Type 0
 ComesUnlessEnded gives true f came reader octets end = (octets ≡ []) × (end ≡ FileEnds)
 ComesUnlessEnded gives false f came reader octets end = ComesOf gives f came reader octets end
 
--- behind the octets that are ready
+-- what may come: the ready octets, and then what may come behind them
 pub record ComesBehind {R : Type 0} (gives : R → List ℕ → ReadEnd → Type 0) (b : Inserting R) (octets : List ℕ)
     (end : ReadEnd) : Type 0 where
   pub later : List ℕ
   pub splits : octets ≡ b.ready ++ later
   pub comes : ComesUnlessEnded gives b.ended b.followed b.behind b.reader later end
 
--- What a reader may give: what the other reader may give, if only recorded losses are read; else that with the losses
--- put in.
+-- What a reader may give. If only recorded losses are read, that is what the other reader may give. Otherwise it is
+-- that with the losses inserted.
 abbrev pub MayGiveBy : {R : Type 0} → Losses → (R → List ℕ → ReadEnd → Type 0) → Inserting R → List ℕ → ReadEnd
     → Type 0
 MayGiveBy losses.Recorded gives b = gives b.reader
@@ -116,7 +117,7 @@ MayGiveBy losses.Inferred gives b = ComesBehind gives b
 abbrev pub MayGive : {R : Type 0} → (R → List ℕ → ReadEnd → Type 0) → Inserting R → List ℕ → ReadEnd → Type 0
 MayGive gives b = MayGiveBy b.losses gives b
 
--- something always may
+-- there is always something that may come
 comes_unless_ended : {R : Type 0} (gives : R → List ℕ → ReadEnd → Type 0) (ended : Bool) (f : Followed)
     (came : List ℕ) (reader : R) → SomethingIsGiven (gives reader)
     → SomethingIsGiven (ComesUnlessEnded gives ended f came reader)
@@ -135,13 +136,13 @@ pub something_may_be_given : {R : Type 0} (gives : R → List ℕ → ReadEnd �
     → ((reader : R) → SomethingIsGiven (gives reader)) → (b : Inserting R) → SomethingIsGiven (MayGive gives b)
 something_may_be_given gives some b = may_give_by b.losses gives b (some b.reader)
 
--- ---- step by step
+-- ---- the steps
 
--- the record at the front, if a whole one stands there
+-- the record that the octets begin with, if they begin with a whole one
 abbrev pub first_record : List ℕ → Option MrtRecord
 first_record octets = if has_record octets then Some (front_record octets) else None
 
--- how many octets it takes, and the session behind it, if no loss comes before it
+-- how many octets a record takes, and the session after it, if no loss comes before it
 abbrev pub pass_record : Followed → Option MrtRecord → Option (ℕ × Followed)
 pass_record f None = None
 pass_record f (Some r) = if is_lost_before f r then None else Some (octets_of (Some r), behind_record f r)
@@ -149,29 +150,29 @@ pass_record f (Some r) = if is_lost_before f r then None else Some (octets_of (S
 abbrev pub pass_at : Followed → List ℕ → Option (ℕ × Followed)
 pass_at f octets = pass_record f (first_record octets)
 
--- So many octets at the front may be given as they are, and the session behind them is this.
+-- So many of the first octets may be given as they are, and this is the session after them.
 pub record Passes (f : Followed) (came : List ℕ) (n : ℕ) (after : Followed) : Type 0 where
   pub fits : n ≤ length came
   pub given : (all : List ℕ) → octets_with f (came ++ all) ≡ take n came ++ octets_with after (drop n came ++ all)
   pub none : n ≡ 0 → after ≡ f
 
--- how many calls failed, of the reader or for want of memory
+-- how many calls failed, of the other reader or because memory was refused
 abbrev pub calls_failed : {R : Type 0} → (R → ℕ) → Inserting R → ℕ
 calls_failed failures b = failures b.reader + b.refused
 
--- a call that failed is counted
+-- a failed call is counted
 abbrev pub Counts : {A : Type 0} → ℕ → ℕ → Result A Failed → Type 0
 Counts before after (Ok x) = after ≡ before
 Counts before after (Err failed) = after ≡ before + 1
 
--- what the octets that came in between say of those that may come
+-- these octets came between two states: they and then what may come in the new state may come in the old one
 abbrev pub CameBetween : (List ℕ → ReadEnd → Type 0) → (List ℕ → ReadEnd → Type 0) → List ℕ → Result Bool Failed
     → Type 0
 CameBetween old new piece (Ok true) = (later : List ℕ) (end : ReadEnd) → new later end → old (piece ++ later) end
 CameBetween old new piece (Ok false) = old piece FileEnds
 CameBetween old new piece (Err failed) = Unit {0}
 
--- all octets that came are ready at the end of a reader, and nothing comes behind them
+-- all octets that came are ready, and nothing comes behind them
 pub record EndsAtRest {R : Type 0} (old new : Inserting R) : Type 0 where
   pub ready : new.ready ≡ old.behind
   pub ended : new.ended ≡ true
@@ -179,7 +180,7 @@ pub record EndsAtRest {R : Type 0} (old new : Inserting R) : Type 0 where
   pub reader : new.reader ≡ old.reader
   pub refused : new.refused ≡ old.refused
 
--- octets were made ready of those that came: what may be given of the octets behind them may be given behind them
+-- Octets that came were made ready. Behind them may come whatever may come of the other octets alone.
 pub record PassesOn {R : Type 0} (old new : Inserting R) : Type 0 where
   pub front : List ℕ
   pub ready : new.ready ≡ front
@@ -203,7 +204,8 @@ module _ {R : Type 0} (gives : R → List ℕ → ReadEnd → Type 0) (failures 
     pub followed : new.followed ≡ old.followed
     pub counts : Counts (calls_failed failures old) (calls_failed failures new) result
 
-  -- whatever may come behind what is ready now might have come before; and some octets are ready, unless these end
+  -- What may come behind the ready octets in the new state might have come in the old one. Some octets are ready,
+  -- unless the octets end.
   pub record GoesOn (old new : Inserting R) : Type 0 where
     pub comes : (octets : List ℕ) (end : ReadEnd) → ComesBehind gives new octets end → ComesBehind gives old octets end
     pub some : (0 < length new.ready) ⊎ (new.ended ≡ true)

@@ -1,4 +1,4 @@
--- What holds of the definitions.
+-- What is true of the definitions.
 use Rattle.std.specs.Prelude.{◌≡◌, ℕ, ◌^◌, ◌<◌, List, All}
 use Rattle.rs_mrt.specs.Record.{end_of, records_of}
 use Rattle.rs_mrt.specs.Source.{source_end}
@@ -14,31 +14,31 @@ use Rattle.rs_losses.specs.declared.losses.Sought.{Sought}
 abbrev pub IsSought : Sought → Type 0
 IsSought who = (who.address < 2 ^ 32) × (who.asn < 2 ^ 32)
 
--- the octets that a reader gives are the records with the losses put in, and the rest
+-- the octets that a reader gives are the records with the losses inserted, and then the rest of the file
 abbrev pub OctetsAreThose : Type 0
 OctetsAreThose = (who : Sought) (file : List ℕ) → IsSought who → All (λ octet. octet < 256) file
     → octets_with (from_the_first who) file ≡ file_with_losses who file
 
--- they are a file of these records
+-- the octets with the losses inserted are a file of the records with the losses inserted
 abbrev pub RecordsAreThose : Type 0
 RecordsAreThose = (who : Sought) (file : List ℕ) → IsSought who → All (λ octet. octet < 256) file
     → records_of (file_with_losses who file) ≡ with_losses who (records_of file)
 
--- which ends as the file does
+-- the file with the losses inserted ends as the file without them does
 abbrev pub EndStays : Type 0
 EndStays = (who : Sought) (file : List ℕ) → IsSought who → All (λ octet. octet < 256) file
     → end_of (file_with_losses who file) ≡ end_of file
 
--- the peer, as a session names it
+-- the peer, as a session identifies it
 abbrev pub session_of : Sought → PeerId
 session_of who = record { asn = who.asn; address = who.address }
 
--- a record that is put in says just that the session is lost
+-- the only meaning of a record that is inserted is that the session is lost
 abbrev pub LossIsJustALoss : Type 0
 LossIsJustALoss = (errors : Errors) (who : Sought) (time : ℕ) → IsSought who
     → effect_of errors (session_of who) (loss_record who time) ≡ loss time
 
--- So what a session says of the file is what it says of the records with the losses put in.
+-- The changes of a session in the file with the losses inserted are those of the records with the losses inserted.
 abbrev pub ChangesAreThose : Type 0
 ChangesAreThose = (errors : Errors) (peer : PeerId) (who : Sought) (file : List ℕ) → IsSought who
     → All (λ octet. octet < 256) file

@@ -1,4 +1,4 @@
--- Losses that a recording doesn't have:
+-- Losses that are missing in a recording:
 pub mod Losses  -- which records show one, and the records with the losses put in
 pub mod Inserting  -- what a reader gives, and how
 pub mod Laws  -- what holds of these

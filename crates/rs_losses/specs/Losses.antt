@@ -1,5 +1,5 @@
--- Losses of a session that its recording doesn't have, but that other records show (RFC 4271, section 8.2.2: a session
--- that is Established again was Idle before). Which records show a loss is our choice.
+-- Losses of a session that its recording does not have, but that other records show. The reason: a session that is
+-- Established again was Idle before (RFC 4271, section 8.2.2). Our choice: which records show a loss.
 use Rattle.std.specs.Prelude.{ℕ, Bool, false, not, ◌&&◌, ◌||◌, ◌==◌, if◌then◌else◌, List, [], ◌∷◌, ◌++◌, Option, Some}
 use Rattle.std.specs.Prelude.{None, filter_map}
 use Rattle.std.specs.List.{flat_map}
@@ -16,29 +16,29 @@ use Rattle.rs_inventory.specs.declared.finding.Note.{Note}
 use Rattle.rs_inventory.specs.declared.peer.Peer.{Peer}
 use Rattle.rs_losses.specs.declared.losses.Sought.{Sought}
 
--- ---- what records say of the peer
+-- ---- what records mean for the peer
 
--- the peer, as records name it
+-- the peer, as records identify it
 abbrev pub peer_of : Sought → Peer
 peer_of who = record { address = who.address; asn = who.asn }
 
--- what a note says of a peer
+-- the meaning of a note for a peer
 abbrev pub news_of : Peer → Option Note → Option News
 news_of peer None = None
 news_of peer (Some note) = if is_peer note.peer peer then Some note.news else None
 
--- what a record says of it, with its Timestamp
+-- the meaning of a record for the peer, with its Timestamp
 abbrev pub told_by : Peer → MrtRecord → Option Timed
 told_by peer r = option_map (λ news. (r.time, news)) (news_of peer (outline_note r))
 
--- The session is up behind these records, the last one first: since its last loss an UPDATE or a change to Established
--- shows so (RFC 4271, section 8.2.2).
+-- The session is up after these records, which are in reverse order. An UPDATE or a change to Established since its
+-- last loss shows it (RFC 4271, section 8.2.2).
 abbrev pub is_session_up : Peer → List MrtRecord → Bool
 is_session_up peer given = is_up (filter_map (told_by peer) given)
 
 -- ---- which records show a loss
 
--- a session begins with what is said: with an OPEN or a change to Established (RFC 4271, section 8.2.2)
+-- a session begins with an OPEN or a change to Established (RFC 4271, section 8.2.2)
 abbrev pub is_begun : Option News → Bool
 is_begun None = false
 is_begun (Some news) = begins news
@@ -48,27 +48,27 @@ abbrev pub is_recorder : Option Peer → ℕ → Bool
 is_recorder None address = false
 is_recorder (Some recorder) address = recorder.address == address
 
--- A loss is recorded with the AS number of the peer, but under another address: under 0.0.0.0, if no other peer has that
--- AS number; or the two addresses are swapped, and that of the peer stands as the recorder's.
+-- A loss is recorded with the AS number of the peer, but with another address. The address is 0.0.0.0, and no other
+-- peer has that AS number. Or the two addresses are swapped, so that the peer's stands as the recorder's.
 abbrev pub is_misplaced : Sought → Option Note → Option Peer → Bool
 is_misplaced who None recorder = false
 is_misplaced who (Some note) recorder =
     is_loss note.news && ((note.peer.asn == who.asn) && (not (note.peer.address == who.address)
     && (((note.peer.address == 0) && who.alone) || is_recorder recorder who.address)))
 
--- a record tells that a session which is up was lost before it: a new one begins, or the loss is recorded under another
--- address
+-- A record shows that a session which is up was lost before it: a new session begins, or the loss is recorded with
+-- another address.
 abbrev pub tells_of_loss : Sought → MrtRecord → Bool
 tells_of_loss who r =
     is_begun (news_of (peer_of who) (outline_note r)) || is_misplaced who (outline_note r) (recorder_in (fields_of r))
 
--- a record shows a loss, where these were given before it, the last one first
+-- a record shows a loss, if these records, in reverse order, were given before it
 abbrev pub shows_loss : Sought → List MrtRecord → MrtRecord → Bool
 shows_loss who given r = is_session_up (peer_of who) given && tells_of_loss who r
 
--- ---- the records with the losses put in
+-- ---- the records with the losses inserted
 
--- the state Established, and 0, which is no state (RFC 6396, section 4.4.1)
+-- the state Established, and below, 0, which is not a state (RFC 6396, section 4.4.1)
 abbrev pub established : ℕ
 established = 6
 
@@ -76,8 +76,7 @@ abbrev pub no_state : ℕ
 no_state = 0
 
 -- The loss at a time: a BGP4MP_STATE_CHANGE_AS4 of the peer from Established (RFC 6396, section 4.4.4). Local AS,
--- Interface Index and Local IP Address are 0, and so is the new state. By that a loss that was put in is told from a
--- recorded one (our choice).
+-- Interface Index, Local IP Address and the new state are 0, which no recorded loss has (our choice).
 abbrev pub loss_record : Sought → ℕ → MrtRecord
 loss_record who time = record {
   time = time;
@@ -87,8 +86,8 @@ loss_record who time = record {
       ++ big_bytes 4 0 ++ big_bytes 2 established ++ big_bytes 2 no_state;
 }
 
--- Records, and before each that shows a loss the loss at its time. What was given before them stands beside, the last one
--- first; so a loss that was put in counts.
+-- The records, with a loss inserted before each record that shows one, at the time of that record. The records given
+-- before, in reverse order, are those of the first list. A loss that was inserted counts among them.
 abbrev pub with_losses_behind : Sought → List MrtRecord → List MrtRecord → List MrtRecord
 with_losses_behind who given [] = []
 with_losses_behind who given (r ∷ later) =
@@ -96,10 +95,11 @@ with_losses_behind who given (r ∷ later) =
     then loss_record who r.time ∷ r ∷ with_losses_behind who (r ∷ loss_record who r.time ∷ given) later
     else r ∷ with_losses_behind who (r ∷ given) later
 
--- the records of a recording with the losses put in
+-- the records of a recording with the losses inserted
 abbrev pub with_losses : Sought → List MrtRecord → List MrtRecord
 with_losses who records = with_losses_behind who [] records
 
--- the octets of a file with the losses put in: its records so, and its rest (RFC 6396, section 2)
+-- the octets of a file with the losses inserted: its records with the losses, and then its rest (RFC 6396, section
+-- 2)
 abbrev pub file_with_losses : Sought → List ℕ → List ℕ
 file_with_losses who file = flat_map record_spelling (with_losses who (records_of file)) ++ rest_of file

@@ -1,9 +1,9 @@
-//! How a session is followed, record by record: whether it is up, and before which record a loss is put in (RFC 4271,
-//! section 8.2.2).
+//! How a session is followed, record by record: whether it is up, and before which record a loss is inserted (RFC
+//! 4271, section 8.2.2).
 //!
-//! Our choices: what shows that a session begins, is up or is lost is what the crate `rs_inventory` takes for it. A
-//! loss is recorded under another address if the Peer IP Address is 0.0.0.0, as where a connection has gone, or if the
-//! two addresses are swapped.
+//! Our choices: the crate `rs_inventory` says which records show that a session begins, is up or is lost. A loss may
+//! be recorded with another address. Then the Peer IP Address is 0.0.0.0, as after a lost connection, or the two
+//! addresses are swapped.
 
 ghost use Rattle.std.specs.Prelude.{◌≡◌, None};
 ghost use Rattle.std.specs.Option.{option_map};
@@ -25,7 +25,7 @@ pub(crate) struct Followed {
 }
 
 impl Followed {
-    // The same behind a record that says this of the peer.
+    // The session after a record with this meaning for the peer.
     fn behind(self, news: Option<News>) -> Followed
         ensures { result ≡ record self { up = up_with self.up news } }
     {
@@ -38,8 +38,8 @@ impl Followed {
         }
     }
 
-    // How many octets the record at the front takes, and the session behind it; none if no whole record stands there, or
-    // a loss comes before it.
+    // How many octets the first record takes, and the session after it. None if the octets begin with no whole
+    // record, or if a loss comes before it.
     fn pass(self, octets: &[u8]) -> Option<(usize, Followed)>
         ensures { result ≡ pass_at self octets.now }
     {

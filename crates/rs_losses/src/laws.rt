@@ -4,9 +4,9 @@ ghost use Rattle.rs_losses.specs.Laws.{ChangesAreThose, EndStays, LossIsJustALos
 
 use rs_mrt::file_splits_in_one_way;
 
-/// The octets that a reader gives of a file are its records with the losses put in, and then the rest of the file, each
-/// octet a number below 256. So they are a file of just these records, and it ends as the file does. A
-/// session says of them what it says of these records.
+/// The octets that a reader gives of a file are its records with the losses inserted, and then the rest of the file.
+/// Each octet is a number below 256. So they are a file of exactly these records, and it ends as the file does. The
+/// changes of a session in that file are those of these records.
 pub fn what_the_octets_with_losses_are()
     ensures octets { OctetsAreThose }
     ensures records { RecordsAreThose }

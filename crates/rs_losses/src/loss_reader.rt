@@ -1,8 +1,8 @@
-//! A reader around another one, which puts a record of the loss before each record that shows one (RFC 4271, section
-//! 8.2.2; RFC 6396, section 2).
+//! A reader around another reader. It inserts a record of the loss before each record that shows one (RFC 4271,
+//! section 8.2.2; RFC 6396, section 2).
 //!
-//! Our choices: all octets of the other reader are given, in order. A record is given once it came whole, and what a
-//! file has behind its last whole record at the end. Memory that is refused is a failed read.
+//! Our choices: all octets of the other reader are given, in order. A record is given once it came whole. The octets
+//! behind the last whole record of a file are given at the end. Memory that is refused is a failed read.
 
 ghost use Rattle.std.specs.Prelude.{◌≡◌, ◌+◌, ◌<◌, ◌≤◌, ◌++◌, [], false, true, IfOk, OnErr, OnOk, length, take, drop, min};
 ghost use Rattle.std.specs.Prelude.{nat_lt};

@@ -1,20 +1,22 @@
--- What a reader within bounds gives of the octets of another reader. Our choice: records are given whole, and octets
--- behind the first later record aren't asked for once its header was read.
+-- What a reader within bounds gives of the octets of another reader. Our choice: records are given whole. Once the
+-- header of the first later record was read, no octets behind it are asked for.
 use Rattle.std.specs.Prelude.{◌≡◌, ◌⊎◌, ℕ, Bool, true, false, List, [], ◌++◌, take, refl}
 use Rattle.rs_mrt.specs.declared.bounds.Bounds.{Bounds}
 use Rattle.rs_mrt.specs.Reader.{ReadEnd, FileEnds, ReadFails, SomethingIsGiven}
 use Rattle.rs_mrt.specs.Bounds.{are_open, has_later, within}
 
--- Of a reader whose octets are these and end so, these octets may be given, and end so:
---   those within the bounds, and the end of the file, where the reader's file ends there too or a record is later;
---   a beginning of them, and then a failed read: a call of the reader fails, or memory is refused.
+-- Another reader gives octets and an end. A reader within bounds may give these octets and this end:
+-- - The octets within the bounds, and then the end of the file, if the other reader ends there too or a record is
+-- later.
+-- - A beginning of those octets and then a failed read, if a call of the other reader fails or memory is refused.
 abbrev pub GivenWithin : Bounds → List ℕ → ReadEnd → List ℕ → ReadEnd → Type 0
 GivenWithin bounds all last octets FileEnds =
     (octets ≡ within bounds all) × ((last ≡ FileEnds) ⊎ (has_later bounds.until all ≡ true))
 GivenWithin bounds all last octets ReadFails = (n : ℕ) × (octets ≡ take n (within bounds all))
 
--- the reader, the bounds, the octets that are ready to be given and those that came behind them, whether the octets end
--- behind those that are ready, and how often memory was refused
+-- A reader within bounds: the other reader, the bounds, and the octets that came but were not given yet. Of these
+-- octets some are ready to be given, and others came behind them. It also says whether the octets end behind the
+-- ready ones, and how often memory was refused.
 pub record Bounded (R : Type 0) : Type 0 where
   pub reader : R
   pub bounds : Bounds
@@ -28,7 +30,7 @@ abbrev pub unbegun : {R : Type 0} → R → Bounds → Bounded R
 unbegun reader bounds =
     record { reader = reader; bounds = bounds; ready = []; behind = []; ended = false; refused = 0 }
 
--- what may come of the octets that came and those that the reader may give
+-- what may come of the octets that came and of those that the other reader may give
 pub record ComesOf {R : Type 0} (gives : R → List ℕ → ReadEnd → Type 0) (bounds : Bounds) (came : List ℕ) (reader : R)
     (octets : List ℕ) (end : ReadEnd) : Type 0 where
   pub all : List ℕ
@@ -36,21 +38,21 @@ pub record ComesOf {R : Type 0} (gives : R → List ℕ → ReadEnd → Type 0) 
   pub given : gives reader all last
   pub cut : GivenWithin bounds (came ++ all) last octets end
 
--- the same; nothing where the octets end
+-- what may come behind the octets that came; nothing may if the octets end there
 abbrev pub ComesUnlessEnded : {R : Type 0} → (R → List ℕ → ReadEnd → Type 0) → Bool → Bounds → List ℕ → R → List ℕ
     → ReadEnd → Type 0
 ComesUnlessEnded gives true bounds came reader octets end = (octets ≡ []) × (end ≡ FileEnds)
 ComesUnlessEnded gives false bounds came reader octets end = ComesOf gives bounds came reader octets end
 
--- behind the octets that are ready
+-- what may come: the ready octets, and then what may come behind them
 pub record ComesBehind {R : Type 0} (gives : R → List ℕ → ReadEnd → Type 0) (b : Bounded R) (octets : List ℕ)
     (end : ReadEnd) : Type 0 where
   pub later : List ℕ
   pub splits : octets ≡ b.ready ++ later
   pub comes : ComesUnlessEnded gives b.ended b.bounds b.behind b.reader later end
 
--- What a reader within bounds may give: what the reader may give, where the bounds leave nothing out; else of that what
--- is within them.
+-- What a reader within bounds may give. If the bounds leave nothing out, that is what the other reader may give.
+-- Otherwise it is the part of it that is within the bounds.
 abbrev pub MayGiveIf : {R : Type 0} → Bool → (R → List ℕ → ReadEnd → Type 0) → Bounded R → List ℕ → ReadEnd → Type 0
 MayGiveIf true gives b = gives b.reader
 MayGiveIf false gives b = ComesBehind gives b
@@ -58,7 +60,7 @@ MayGiveIf false gives b = ComesBehind gives b
 abbrev pub MayGive : {R : Type 0} → (R → List ℕ → ReadEnd → Type 0) → Bounded R → List ℕ → ReadEnd → Type 0
 MayGive gives b = MayGiveIf (are_open b.bounds) gives b
 
--- something always may
+-- there is always something that may come
 comes_unless_ended : {R : Type 0} (gives : R → List ℕ → ReadEnd → Type 0) (ended : Bool) (bounds : Bounds)
     (came : List ℕ) (reader : R) → SomethingIsGiven (gives reader)
     → SomethingIsGiven (ComesUnlessEnded gives ended bounds came reader)

@@ -1,4 +1,4 @@
--- How much of a recorded file is read: the rule for a time and for a record that is cut short (our choice), in terms of
+-- How much of a recorded file is read, by a time and by a record that is cut short (our choice). The rule is about
 -- the records that a file holds (RFC 6396, section 2).
 use Rattle.std.specs.Prelude.{◌≡◌, ℕ, nat_le, nat_lt, Bool, true, false, not, ◌&&◌, ◌||◌, if◌then◌else◌, List, []}
 use Rattle.std.specs.Prelude.{length, take, sum_by, take_while, Option, Some, None}
@@ -11,28 +11,28 @@ use Rattle.rs_mrt.specs.Record.{MrtRecord, header_len, headed, octets_of, record
 
 -- ---- the time
 
--- a Timestamp is later than a time: microseconds don't count
+-- a Timestamp is later than a time if its seconds are; microseconds do not count
 abbrev pub is_time_later : Option ℕ → ℕ → Bool
 is_time_later None timestamp = false
 is_time_later (Some time) timestamp = nat_lt time timestamp
 
--- a record is later
+-- a record is later than the time
 abbrev pub is_later : Option ℕ → MrtRecord → Bool
 is_later until r = is_time_later until r.time
 
--- a record is not
+-- a record is not later than the time
 abbrev pub is_in_time : Option ℕ → MrtRecord → Bool
 is_in_time until r = not (is_later until r)
 
--- the records of a file before the first one that is later
+-- the records of a file before the first record that is later than the time
 abbrev pub records_until : Option ℕ → List ℕ → List MrtRecord
 records_until until file = take_while (is_in_time until) (records_of file)
 
--- a record that the end of a file cuts short is later, where its header is whole
+-- a record that the end of a file cuts short is later if its header is whole and has a later Timestamp
 abbrev pub rest_is_later : Option ℕ → List ℕ → Bool
 rest_is_later until rest = nat_le header_len (length rest) && is_later until (headed rest [])
 
--- a later record stands in the file, whole or cut short
+-- the file has a later record, whole or cut short
 abbrev pub has_later : Option ℕ → List ℕ → Bool
 has_later until file = list_any (is_later until) (records_of file) || rest_is_later until (rest_of file)
 
@@ -46,8 +46,8 @@ octets_in records = sum_by (λ r. octets_of (Some r)) records
 abbrev pub whole_until : Option ℕ → List ℕ → List ℕ
 whole_until until file = take (octets_in (records_until until file)) file
 
--- The octets of a file that are read: those of the whole records before the first one that is later. Where none is
--- later and the tail is strict, the octets of a record that is cut short too, so all octets of the file.
+-- The octets of a file that are read: those of the whole records before the first later record. If no record is
+-- later and the tail is strict, all octets of the file are read, with a record that is cut short.
 abbrev pub part_read : Option ℕ → Tail → List ℕ → List ℕ
 part_read until Strict file = if has_later until file then whole_until until file else file
 part_read until Lenient file = whole_until until file
@@ -55,7 +55,7 @@ part_read until Lenient file = whole_until until file
 abbrev pub within : Bounds → List ℕ → List ℕ
 within bounds file = part_read bounds.until bounds.tail file
 
--- the bounds leave nothing out of any file
+-- the tail is strict, so that a record that is cut short is a fault
 abbrev pub is_tail_strict : Tail → Bool
 is_tail_strict Strict = true
 is_tail_strict Lenient = false
@@ -67,22 +67,22 @@ is_time_open (Some time) = false
 abbrev pub are_open : Bounds → Bool
 are_open bounds = is_time_open bounds.until && is_tail_strict bounds.tail
 
--- ---- what that means of the records
+-- ---- what the bounds mean for the records
 
--- the fault of a file's end, where its rest is read: no record is later, and the tail is strict
+-- the fault at the end of what is read: the file's own if no record is later and the tail is strict, or else none
 abbrev pub end_within : Bounds → List ℕ → Option MrtFault
 end_within bounds file = if has_later bounds.until file || not (is_tail_strict bounds.tail) then None else end_of file
 
--- the octets that are read are a file of the records before the first later one
+-- the octets that are read are a file that holds just the records before the first later one
 abbrev pub RecordsAreThoseUntil : Type 0
 RecordsAreThoseUntil =
     (bounds : Bounds) (file : List ℕ) → records_of (within bounds file) ≡ records_until bounds.until file
 
--- and it ends as if it had been cut there: without a fault, but where its rest is read
+-- the octets that are read end with this fault, if they are taken as a file of their own
 abbrev pub EndIsThatWithin : Type 0
 EndIsThatWithin = (bounds : Bounds) (file : List ℕ) → end_of (within bounds file) ≡ end_within bounds file
 
--- a file that begins with them; and bounds that are open leave nothing out
+-- the octets that are read are a beginning of the file; open bounds leave nothing out
 abbrev pub IsBeginning : Type 0
 IsBeginning = (bounds : Bounds) (file : List ℕ) → (n : ℕ) × (within bounds file ≡ take n file)
 

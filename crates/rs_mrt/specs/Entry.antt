@@ -8,25 +8,25 @@ use Rattle.rs_mrt.specs.declared.meaning.Entry.{Entry}
 use Rattle.rs_mrt.specs.declared.meaning.Entry.TheVariants as entry
 use Rattle.rs_mrt.specs.Record.{MrtRecord}
 
--- what a record says, without where it lies in memory: a peer has sent a BGP message; the session with it has gone from
--- one state to another; or nothing that we read
+-- The meaning of a record. The peer has sent a BGP message, or the session with it has gone from one state to
+-- another. Every other record is ignored.
 pub data Meaning : Type 0 where
   Message : (peer_as peer : ℕ) (message : List ℕ) → Meaning
   State : (peer_as peer old new : ℕ) → Meaning
   Other : Meaning
 
--- the meaning that a program's value has
+-- the meaning of a value of the program
 abbrev pub meaning_of : Entry → Meaning
 meaning_of (entry.Message peer_as peer message) = Message peer_as peer message.now
 meaning_of (entry.State peer_as peer old new) = State peer_as peer old new
 meaning_of entry.Other = Other
 
--- what a program's answer says
+-- the meaning of an answer of the program
 abbrev pub answer_of : Result Entry MrtFault → Result Meaning MrtFault
 answer_of (Ok found) = Ok (meaning_of found)
 answer_of (Err fault) = Err fault
 
--- ---- codes and places
+-- ---- codes and offsets
 
 -- the Types of records of BGP sessions, without and with microseconds (sections 4.4 and 4.5)
 abbrev pub type_bgp4mp : ℕ
@@ -50,8 +50,8 @@ family_ipv4 = 1
 abbrev pub microseconds_len : ℕ
 microseconds_len = 4
 
--- where the fields of both Subtypes begin: Peer AS at 0, Local AS at 4, Interface Index at 8, Address Family
--- at 10, Peer IP Address at 12, Local IP Address at 16, and at 20 the message or the two states
+-- The offsets of the fields of both Subtypes: Peer AS 0, Local AS 4, Interface Index 8, Address Family 10. Peer IP
+-- Address 12, Local IP Address 16; the message or the two states begin at 20.
 abbrev pub family_place : ℕ
 family_place = 10
 
@@ -75,23 +75,23 @@ states_end = 24
 
 -- ---- the fields of BGP4MP
 
--- BGP4MP_MESSAGE_AS4: Peer AS, Local AS, Interface Index, Address Family, Peer IP Address, Local IP Address and the BGP
--- message, whose octets may be none (section 4.4.3)
+-- BGP4MP_MESSAGE_AS4 has these fields: Peer AS, Local AS, Interface Index, Address Family, Peer IP Address and Local
+-- IP Address. The BGP message follows; it may be empty (section 4.4.3).
 abbrev pub message_entry : List ℕ → Result Meaning MrtFault
 message_entry fields =
     if nat_lt (length fields) message_place then Err FieldsCutShort
     else Ok (Message (big_number 4 fields) (big_number 4 (drop peer_place fields)) (drop message_place fields))
 
--- BGP4MP_STATE_CHANGE_AS4: the same fields up to the addresses, then Old State and New State; octets after them have no
--- effect (section 4.4.4; the latter is our choice)
+-- BGP4MP_STATE_CHANGE_AS4 has the same fields up to the addresses, then Old State and New State (section 4.4.4).
+-- Octets behind them have no effect (our choice).
 abbrev pub state_entry : List ℕ → Result Meaning MrtFault
 state_entry fields =
     if nat_lt (length fields) states_end then Err FieldsCutShort
     else Ok (State (big_number 4 fields) (big_number 4 (drop peer_place fields))
     (big_number 2 (drop old_state_place fields)) (big_number 2 (drop new_state_place fields)))
 
--- The fields of a record of Type BGP4MP with this Subtype. We read the two Subtypes for AS numbers of four octets, and
--- IPv4 peers; the order of the tests is our choice.
+-- The meaning of the fields of a record of Type BGP4MP with this Subtype. The two Subtypes with AS numbers of four
+-- octets are read, for IPv4 peers. The order of the tests is our choice.
 unfoldable pub fields_entry : ℕ → List ℕ → Result Meaning MrtFault
 fields_entry subtype fields =
     if not (subtype == subtype_message_as4) && not (subtype == subtype_state_change_as4) then Ok Other
@@ -102,8 +102,8 @@ fields_entry subtype fields =
 
 -- ---- a record
 
--- A record of Type BGP4MP_ET has a Microsecond Timestamp of 4 octets before the same fields, which Length counts
--- (section 3). It has no effect (our choice). A record of another Type says nothing.
+-- A record of Type BGP4MP_ET has a Microsecond Timestamp of 4 octets before the fields, and Length counts it
+-- (section 3). The Microsecond Timestamp has no effect (our choice). A record of another Type is ignored.
 unfoldable pub entry_of : MrtRecord → Result Meaning MrtFault
 entry_of r =
     if r.kind == type_bgp4mp then fields_entry r.subtype r.body
@@ -114,27 +114,27 @@ entry_of r =
 
 -- ---- the front of a record
 
--- how many octets of a body suffice: microseconds, fields, and one octet more than the longest BGP message
--- has (4 + 20 + 4,096 + 1; RFC 4271, section 4.1)
+-- How many octets of a body are enough: microseconds, fields, and one octet more than the longest BGP message has.
+-- That is 4 + 20 + 4,096 + 1 (RFC 4271, section 4.1).
 abbrev pub front_len : ℕ
 front_len = 4121
 
--- the record with no more of its body than its first 4,121 octets
+-- the record with the first 4,121 octets of its body alone
 abbrev pub front_of : MrtRecord → MrtRecord
 front_of r = record { time = r.time; kind = r.kind; subtype = r.subtype; body = take front_len r.body }
 
--- the same, of a message just its first n octets
+-- a meaning with the first n octets of its message alone
 abbrev pub cut_message : ℕ → Result Meaning MrtFault → Result Meaning MrtFault
 cut_message n (Ok (Message peer_as peer message)) = Ok (Message peer_as peer (take n message))
 cut_message n (Ok (State peer_as peer old new)) = Ok (State peer_as peer old new)
 cut_message n (Ok Other) = Ok Other
 cut_message n (Err fault) = Err fault
 
--- how many octets of a message the front of a record holds: 4,097 or 4,101, each more than the longest message has
+-- how many octets of a message fit the front of a record: 4,097 or 4,101, each more than the longest message has
 abbrev pub message_room : MrtRecord → ℕ
 message_room r =
     if r.kind == type_bgp4mp_et then front_len - (microseconds_len + message_place) else front_len - message_place
 
--- The front of a record says what the record says, but for the octets of a message that is longer than any.
+-- The front of a record has the meaning of the record; only a message that is longer than allowed loses octets.
 abbrev pub FrontSaysTheSame : Type 0
 FrontSaysTheSame = (r : MrtRecord) → entry_of (front_of r) ≡ cut_message (message_room r) (entry_of r)

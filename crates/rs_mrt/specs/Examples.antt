@@ -1,4 +1,5 @@
--- Examples of the definitions, which the checker computes: of each, values where it holds and values where it doesn't.
+-- Examples of the definitions, computed by the checker. For each definition there are values for which it holds, and
+-- values for which it does not.
 use Rattle.std.specs.Prelude.{◌≡◌, ℕ, true, false, List, [], ◌∷◌, ◌++◌, take, Option, Some, None, Ok, Err}
 use Rattle.rs_mrt.specs.declared.fault.MrtFault.TheVariants.{HeaderCutShort, BodyCutShort, FieldsCutShort}
 use Rattle.rs_mrt.specs.declared.fault.MrtFault.TheVariants.{MicrosecondsCutShort}
@@ -13,7 +14,7 @@ use Rattle.rs_mrt.specs.Reader.{FileEnds, ReadFails, MayBeLeft, failed_reads}
 use Rattle.rs_mrt.specs.MemoryReading.{MemoryReading, Comes, after_read, amount_given}
 use Rattle.rs_mrt.specs.RecordReading.{end_within, fault_behind}
 
--- of AS 64501 at 192.0.2.11, the recorder being AS 64500 at 192.0.2.1, over IPv4
+-- the fields of a session: the peer is AS 64501 at 192.0.2.11, the recorder is AS 64500 at 192.0.2.1, over IPv4
 abbrev pub session : List ℕ
 session = 0 ∷ 0 ∷ 251 ∷ 245 ∷ 0 ∷ 0 ∷ 251 ∷ 244 ∷ 0 ∷ 0 ∷ 0 ∷ 1 ∷ 192 ∷ 0 ∷ 2 ∷ 11 ∷ 192 ∷ 0 ∷ 2 ∷ 1 ∷ []
 
@@ -21,11 +22,11 @@ session = 0 ∷ 0 ∷ 251 ∷ 245 ∷ 0 ∷ 0 ∷ 251 ∷ 244 ∷ 0 ∷ 0 ∷ 0 
 abbrev pub recorded : ℕ → ℕ → List ℕ → MrtRecord
 recorded kind subtype body = record { time = 100; kind = kind; subtype = subtype; body = body }
 
--- that session has gone from OpenSent to Established
+-- the session has gone from OpenSent to Established
 abbrev pub change : MrtRecord
 change = recorded 16 5 (session ++ 0 ∷ 4 ∷ 0 ∷ 6 ∷ [])
 
--- a file with this record alone, 36 octets
+-- a file of this record alone, 36 octets
 abbrev pub file : List ℕ
 file = 0 ∷ 0 ∷ 0 ∷ 100 ∷ 0 ∷ 16 ∷ 0 ∷ 5 ∷ 0 ∷ 0 ∷ 0 ∷ 24 ∷ change.body
 
@@ -89,7 +90,7 @@ pub record WriterExamples : Type 0 where
   pub no_room : amount_within (record { before_failure = None; room = 30; piece = 7 }) 30 40 ≡ None
   pub failing_call : amount_within (record { before_failure = Some 0; room = 30; piece = 7 }) 0 40 ≡ None
 
--- a reader over three octets, of which a call fails after so many calls, and one after so many octets
+-- a reader over three octets; a call fails after so many calls, and one after so many octets
 abbrev pub three_in_calls : Option ℕ → Option ℕ → MemoryReading
 three_in_calls calls before =
     record { left = 1 ∷ 2 ∷ 3 ∷ []; calls = calls; before_failure = before; most = 2; failures = 0 }

@@ -4,8 +4,8 @@ use Rattle.rs_mrt.specs.declared.fault.MrtFault.{MrtFault}
 use Rattle.rs_mrt.specs.declared.fault.MrtFault.TheVariants.{HeaderCutShort, BodyCutShort, FieldsCutShort}
 use Rattle.rs_mrt.specs.declared.fault.MrtFault.TheVariants.{MicrosecondsCutShort}
 
--- in the order in which they are declared: in a header, in a body, in the fields of a body, in the microseconds
--- before these
+-- the order in which they are declared: in a header, in a body, in the fields of a body, in the microseconds before
+-- the fields
 abbrev pub number_of : MrtFault → ℕ
 number_of HeaderCutShort = 1
 number_of BodyCutShort = 2

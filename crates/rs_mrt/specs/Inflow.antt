@@ -1,5 +1,5 @@
--- How a reader of records takes octets from its reader, step by step. Nothing here is of a standard but the header and
--- the body of a record (RFC 6396, section 2).
+-- How a reader of records takes octets from its reader, step by step. Only the header and the body of a record are
+-- from a standard here (RFC 6396, section 2).
 use Rattle.std.specs.Prelude.{◌≡◌, ◌≢◌, ◌⊎◌, ℕ, zero, suc, ◌+◌, ◌-◌, ◌^◌, ◌<◌, ◌≤◌, Bool, true, false, List, [], ◌++◌}
 use Rattle.std.specs.Prelude.{length, take, drop, Option, Some, None, Result, Ok, Err, IfOk, OnErr}
 use Rattle.rs_mrt.specs.declared.fault.MrtFault.{MrtFault}
@@ -13,14 +13,14 @@ use Rattle.rs_mrt.specs.RecordReading.{Inflow, MayArrive, RecordReading, read_li
 
 -- ---- octets
 
--- What the octets that came in between say: whatever may arrive afterwards may arrive before with them in
--- front; or they are all, and end so.
+-- These octets came between two states of a reader. They, and then what may arrive in the new state, may arrive in
+-- the old state. Or these octets are all that may arrive, and the octets end.
 abbrev pub Behind : (List ℕ → ReadEnd → Type 0) → (List ℕ → ReadEnd → Type 0) → List ℕ → Result Bool Failed → Type 0
 Behind old new piece (Ok true) = (later : List ℕ) (end : ReadEnd) → new later end → old (piece ++ later) end
 Behind old new piece (Ok false) = old piece FileEnds
 Behind old new piece (Err failed) = old piece ReadFails
 
--- a failed call is counted, but for one that isn't made since the limit is met
+-- a failed call is counted; a call that is not made because the limit is reached is not
 abbrev pub CountsCall : ℕ → ℕ → ℕ → Result Bool Failed → Type 0
 CountsCall before after came (Ok more) = after ≡ before
 CountsCall before after came (Err failed) = (after ≡ before + 1) ⊎ ((after ≡ before) × (came ≡ read_limit))
@@ -31,18 +31,18 @@ gave_some (Ok zero) = Ok false
 gave_some (Ok (suc n)) = Ok true
 gave_some (Err failed) = Err failed
 
--- the octets that a call gave to the front of the piece
+-- the octets that a call put into the beginning of the piece
 abbrev pub given_of : Result ℕ Failed → List ℕ → List ℕ
 given_of (Ok n) piece = take n piece
 given_of (Err failed) piece = []
 
--- there are as many octets as wanted, or else fewer
+-- there are as many octets as wanted, or the octets ended before that
 abbrev pub IsEnough : ℕ → ℕ → Result Bool Failed → Type 0
 IsEnough wanted len (Ok true) = wanted ≤ len
 IsEnough wanted len (Ok false) = len < wanted
 IsEnough wanted len (Err failed) = len < wanted
 
--- a length grew just where octets came
+-- a length grew exactly if octets came
 abbrev pub Grows : ℕ → ℕ → Result Bool Failed → Type 0
 Grows before after (Ok true) = before < after
 Grows before after (Ok false) = after ≡ before
@@ -50,21 +50,21 @@ Grows before after (Err failed) = after ≡ before
 
 -- ---- records
 
--- the record whose header stands at the front of the octets, of its body so many octets
+-- the record whose header the octets begin with, with so many octets of its body
 abbrev pub shown_in : Option ℕ → List ℕ → Option MrtRecord
 shown_in None octets = None
 shown_in (Some n) octets = Some (headed octets (take n (drop header_len octets)))
 
--- how many octets that takes
+-- how many octets the record that is shown takes
 abbrev pub shown_len : Option ℕ → ℕ
 shown_len None = 0
 shown_len (Some n) = header_len + n
 
--- the octets behind it
+-- the octets behind the record that is shown
 abbrev pub held_behind : Option ℕ → List ℕ → List ℕ
 held_behind shown octets = drop (shown_len shown) octets
 
--- the answer at the end of the octets, which leaves this rest
+-- the answer at the end of the octets, if these octets are the rest
 abbrev pub answer_at : Option MrtFault → Result Bool SourceFault
 answer_at None = Ok false
 answer_at (Some fault) = Err (Mrt fault)
@@ -73,13 +73,14 @@ abbrev pub answer_behind : ReadEnd → List ℕ → Result Bool SourceFault
 answer_behind FileEnds rest = answer_at (fault_of_rest rest)
 answer_behind ReadFails rest = Err Read
 
--- how octets end, as a call on them answers it
+-- the answer of a call at the end of the octets
 abbrev pub call_at : ReadEnd → Failed → Result Bool Failed
 call_at FileEnds failed = Ok false
 call_at ReadFails failed = Err failed
 
--- what always holds of a reader of records: the record that is shown stands in the window; a call of its reader can be
--- counted while it is asked; where it has stopped, nothing is shown and no record was the answer
+-- What is always true of a reader of records. The record that is shown stands in the window. A call of its reader
+-- can be counted as long as records are asked for. After the last answer no record is shown, and that answer was not
+-- a record.
 pub record ReaderFits (shown : Option ℕ) (window : List ℕ) (stopped : Option (Result Bool SourceFault))
     (came failures : ℕ) : Type 0 where
   pub stands : shown_len shown ≤ length window
@@ -88,23 +89,23 @@ pub record ReaderFits (shown : Option ℕ) (window : List ℕ) (stopped : Option
   pub counts : stopped ≡ None → failures < 2 ^ 64 - 1
   pub quiet : (last : Result Bool SourceFault) → stopped ≡ Some last → (shown ≡ None) × (last ≢ Ok true)
 
--- ---- steps of one reader: what it may still give, and how many of its calls failed
+-- ---- steps of one reader: the octets that it may still give, and how many of its calls failed
 
 module _ {R : Type 0} (gives : R → List ℕ → ReadEnd → Type 0) (failures : R → ℕ) where
-  -- this piece came in between
+  -- this piece came between the two states
   pub record Draws (old new : Inflow R) (piece : List ℕ) (result : Result Bool Failed) : Type 0 where
     pub behind : Behind (MayArrive gives old) (MayArrive gives new) piece result
     pub came : new.came ≡ old.came + length piece
     pub within : new.came ≤ read_limit
     pub counts : CountsCall (failures old.reader) (failures new.reader) new.came result
 
-  -- what came in between stands behind what was held
+  -- the octets that came stand behind those that were there before
   pub record Fills (old new : Inflow R) (before after : List ℕ) (result : Result Bool Failed) : Type 0 where
     pub piece : List ℕ
     pub filled : after ≡ before ++ piece
     pub drawn : Draws old new piece result
 
-  -- a call gave octets, at most so many, and they were forgotten
+  -- a call gave at most so many octets, which were dropped
   pub record Forgets (old new : Inflow R) (most : ℕ) (result : Result ℕ Failed) : Type 0 where
     pub piece : List ℕ
     pub drawn : Draws old new piece (gave_some result)
@@ -112,14 +113,14 @@ module _ {R : Type 0} (gives : R → List ℕ → ReadEnd → Type 0) (failures 
     pub counted : IfOk result (λ n. length piece ≡ n)
     pub empty : OnErr result (length piece ≡ 0)
 
-  -- so many octets came in between, or fewer at the end, and were forgotten
+  -- so many octets came and were dropped; at the end there may be fewer
   pub record Skips (old new : Inflow R) (wanted : ℕ) (result : Result Bool Failed) : Type 0 where
     pub piece : List ℕ
     pub drawn : Draws old new piece result
     pub most : length piece ≤ wanted
     pub enough : IsEnough wanted (length piece) result
 
-  -- a whole record came: its front is shown, and all that came behind it is held
+  -- a whole record came: its front is shown, and the octets that came behind it are kept
   pub record FindsRecord (old new : Inflow R) (before : List ℕ) (shown : Option MrtRecord)
       (held : List ℕ) : Type 0 where
     pub piece : List ℕ
@@ -138,7 +139,7 @@ module _ {R : Type 0} (gives : R → List ℕ → ReadEnd → Type 0) (failures 
     pub says : answer ≡ answer_behind end (before ++ piece)
     pub fewer : length after ≤ length before + length piece
 
-  -- the next record is found in a window, or none is
+  -- the next record is found in a window, or there is none
   abbrev pub Finds : Inflow R → Inflow R → List ℕ → List ℕ → Result (Option ℕ) SourceFault → Type 0
   Finds old new before after (Ok (Some n)) =
       FindsRecord old new before (shown_in (Some n) after) (held_behind (Some n) after)
@@ -146,7 +147,7 @@ module _ {R : Type 0} (gives : R → List ℕ → ReadEnd → Type 0) (failures 
   Finds old new before after (Ok None) = FindsNone old new before after (Ok false)
   Finds old new before after (Err fault) = FindsNone old new before after (Err fault)
 
-  -- the same of a reader of records, which stops where none is
+  -- the next record is found, or there is none and the reader of records gives its last answer
   abbrev pub GoesOn : RecordReading R → RecordReading R → Result Bool SourceFault → Type 0
   GoesOn old new (Ok true) =
       FindsRecord old.inflow new.inflow old.held new.shown new.held × (new.stopped ≡ None)

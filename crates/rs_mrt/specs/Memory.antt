@@ -1,11 +1,11 @@
--- A writer over memory, and when it fails. Nothing here is of a standard: all of it is our choice.
+-- A writer over memory, and when it fails. Nothing here is from a standard: all of it is our choice.
 use Rattle.std.specs.Prelude.{ℕ, zero, suc, ◌+◌, ◌-◌, min, List, [], ◌++◌, length, take, Option, Some, None, Result}
 use Rattle.std.specs.Prelude.{Ok, Err}
 use Rattle.rs_mrt.specs.declared.memory.Limits.{Limits}
 use Rattle.rs_mrt.specs.declared.stream.Failed.{Failed}
 use Rattle.rs_mrt.specs.Stream.{failed_calls}
 
--- how many calls go well before the one that fails, how many octets are taken in all, and how many in one call
+-- how many calls succeed before the one that fails, how many octets are taken in all, and how many in one call
 pub record WriteLimits : Type 0 where
   pub before_failure : Option ℕ
   pub room : ℕ
@@ -24,19 +24,19 @@ pub record InMemory : Type 0 where
 abbrev pub begun : WriteLimits → InMemory
 begun limits = record { taken = []; failures = 0; limits = limits }
 
--- a call fails where no octet is left for a piece that isn't empty
+-- a call fails if there is no room left for a piece that is not empty
 abbrev pub amount_left : ℕ → ℕ → ℕ → Option ℕ
 amount_left zero most (suc len) = None
 amount_left zero most zero = Some 0
 amount_left (suc left) most len = Some (min (min len most) (suc left))
 
--- how many octets of a piece of this length are taken where so many are left: none where the call fails
+-- how many octets of a piece of this length are taken if there is so much room; None if the call fails
 abbrev pub amount_at : Option ℕ → ℕ → ℕ → ℕ → Option ℕ
 amount_at (Some zero) left most len = None
 amount_at (Some (suc calls)) left most len = amount_left left most len
 amount_at None left most len = amount_left left most len
 
--- the same after those that were taken
+-- how many octets of a piece of this length are taken after so many octets
 abbrev pub amount_within : WriteLimits → ℕ → ℕ → Option ℕ
 amount_within limits taken len = amount_at limits.before_failure (limits.room - taken) limits.piece len
 
@@ -53,12 +53,12 @@ fewer None = None
 abbrev pub after_call : WriteLimits → WriteLimits
 after_call limits = record { before_failure = fewer limits.before_failure; room = limits.room; piece = limits.piece }
 
--- the octets after a call that answers so
+-- the octets after a call with this answer
 abbrev pub appended : List ℕ → List ℕ → Result ℕ Failed → List ℕ
 appended taken piece (Ok n) = taken ++ take n piece
 appended taken piece (Err failed) = taken
 
--- the writer after a call that answers so
+-- the writer after a call with this answer
 abbrev pub after_write : InMemory → List ℕ → Result ℕ Failed → InMemory
 after_write writer piece answer =
     record {

@@ -11,14 +11,14 @@ use Rattle.rs_mrt.specs.declared.record.Record.{Record}
 
 -- ---- one record
 
--- a record without where it lies in memory: seconds since 1970, Type, Subtype, octets
+-- a record as a value: seconds since 1970, Type, Subtype, and the octets of its body
 pub record MrtRecord : Type 0 where
   pub time : ℕ
   pub kind : ℕ
   pub subtype : ℕ
   pub body : List ℕ
 
--- the record that a program's value is
+-- the record as which callers see a value of the program
 abbrev pub record_of : Record → MrtRecord
 record_of r = record { time = r.time; kind = r.kind; subtype = r.subtype; body = r.body.now }
 
@@ -33,7 +33,7 @@ pub record IsRecord (r : MrtRecord) : Type 0 where
 abbrev pub header_len : ℕ
 header_len = 12
 
--- the header: Timestamp, Type, Subtype and Length, which doesn't count the header
+-- the header: Timestamp, Type, Subtype and Length; Length does not count the header
 abbrev pub header_spelling : ℕ → ℕ → ℕ → ℕ → List ℕ
 header_spelling time kind subtype len = big_bytes 4 time ++ big_bytes 2 kind ++ big_bytes 2 subtype ++ big_bytes 4 len
 
@@ -41,31 +41,31 @@ header_spelling time kind subtype len = big_bytes 4 time ++ big_bytes 2 kind ++ 
 abbrev pub record_spelling : MrtRecord → List ℕ
 record_spelling r = header_spelling r.time r.kind r.subtype (length r.body) ++ r.body
 
--- how many octets spell the record that is there
+-- how many octets the record takes, 0 if there is none
 abbrev pub octets_of : Option MrtRecord → ℕ
 octets_of None = 0
 octets_of (Some r) = header_len + length r.body
 
 -- ---- the records of a file, as a relation on the whole file
 
--- the file is the spellings of these records, one after another, then the rest, and no front of the rest
--- spells a record
+-- The file is the spellings of these records, one after another, and then the rest. The rest does not begin with a
+-- whole record.
 pub record Splits (file : List ℕ) (records : List MrtRecord) (rest : List ℕ) : Type 0 where
   pub spelled : file ≡ flat_map record_spelling records ++ rest
   pub fit : AllByRecursion IsRecord records
   pub longest : (r : MrtRecord) (after : List ℕ) → IsRecord r → rest ≢ record_spelling r ++ after
 
--- ---- the same, computed
+-- ---- the records of a file, computed
 
--- the Length field of the header at the front
+-- the Length field of the header that the octets begin with
 abbrev pub length_field : List ℕ → ℕ
 length_field octets = big_number 4 (drop 8 octets)
 
--- a header stands at the front, and as many octets after it as its Length
+-- the octets begin with a header, and behind it there are as many octets as its Length says
 abbrev pub has_record : List ℕ → Bool
 has_record octets = nat_le header_len (length octets) && nat_le (length_field octets) (length (drop header_len octets))
 
--- the record whose header stands at the front, with this body
+-- the record whose header the octets begin with, with this body
 abbrev pub headed : List ℕ → List ℕ → MrtRecord
 headed octets body =
     record {
@@ -75,44 +75,44 @@ headed octets body =
       body = body;
     }
 
--- the record at the front
+-- the record that the octets begin with
 abbrev pub front_record : List ℕ → MrtRecord
 front_record octets = headed octets (take (length_field octets) (drop header_len octets))
 
--- the octets after the record at the front
+-- the octets behind the first record
 abbrev pub after_record : List ℕ → List ℕ
 after_record octets = drop (length_field octets) (drop header_len octets)
 
--- the records at the front of the octets, at most n
+-- the records that the octets begin with, at most n
 unfoldable pub records_within : ℕ → List ℕ → List MrtRecord
 records_within zero octets = []
 records_within (suc n) octets =
     if has_record octets then front_record octets ∷ records_within n (after_record octets) else []
 
--- the octets after those records
+-- the octets behind the first n records
 unfoldable pub rest_within : ℕ → List ℕ → List ℕ
 rest_within zero octets = octets
 rest_within (suc n) octets = if has_record octets then rest_within n (after_record octets) else octets
 
--- the records of a file: it has at most one for each octet
+-- all records of a file; a file has at most as many records as octets
 unfoldable pub records_of : List ℕ → List MrtRecord
 records_of file = records_within (length file) file
 
--- the octets after the records of a file
+-- the octets behind the last record of a file
 unfoldable pub rest_of : List ℕ → List ℕ
 rest_of file = rest_within (length file) file
 
--- what the rest says: the end of the file, or which part of a record is cut short
+-- what the rest means: the file ends there, or a record is cut short in its header or its body
 abbrev pub fault_of_rest : List ℕ → Option MrtFault
 fault_of_rest [] = None
 fault_of_rest (octet ∷ octets) =
     if nat_lt (length (octet ∷ octets)) header_len then Some HeaderCutShort else Some BodyCutShort
 
--- the computed split is one
+-- the computed records and rest split the file
 abbrev pub SplitIsFound : Type 0
 SplitIsFound = (file : List ℕ) → All (λ octet. octet < 256) file → Splits file (records_of file) (rest_of file)
 
--- and there is no other
+-- there is no other way to split the file
 abbrev pub SplitIsTheOnlyOne : Type 0
 SplitIsTheOnlyOne =
     (records : List MrtRecord) (file rest : List ℕ) → All (λ octet. octet < 256) file → Splits file records rest
@@ -124,7 +124,7 @@ end_of file = fault_of_rest (rest_of file)
 
 -- ---- a file that is being read
 
--- the record given last, the records to come, how they end, and how many octets are left
+-- the record given last, the records to come, their end, and how many octets are left
 pub record Reading : Type 0 where
   pub shown : Option MrtRecord
   pub left : List MrtRecord
@@ -136,19 +136,19 @@ abbrev pub reading_of : Option MrtRecord → List ℕ → Reading
 reading_of shown octets =
     record { shown = shown; left = records_of octets; end = end_of octets; octets = length octets }
 
--- the next record; after the last one, how the records end
+-- the next record, or, after the last one, how the records end
 abbrev pub next_of : List MrtRecord → Option MrtFault → Result (Option MrtRecord) MrtFault
 next_of (r ∷ later) end = Ok (Some r)
 next_of [] None = Ok None
 next_of [] (Some fault) = Err fault
 
--- the reading once that was given
+-- the reading after the next record was given
 abbrev pub after_next : List MrtRecord → Reading → Reading
 after_next (r ∷ later) reading =
     record { shown = Some r; left = later; end = reading.end; octets = reading.octets - octets_of (Some r) }
 after_next [] reading = record { shown = None; left = []; end = reading.end; octets = reading.octets }
 
--- what a program's answer says, with each value as view sees it
+-- an answer of the program, with each value as callers see it
 abbrev pub seen : {X Y : Type 0} → (X → Y) → Result (Option X) MrtFault → Result (Option Y) MrtFault
 seen view (Ok found) = Ok (option_map view found)
 seen view (Err fault) = Err fault
@@ -157,8 +157,8 @@ abbrev pub nothing_taken : Option MrtFault → Result (Option (MrtRecord × List
 nothing_taken None = Ok None
 nothing_taken (Some fault) = Err fault
 
--- the record at the front of the octets, and the octets after it; where none stands there, what the octets
--- say as a rest
+-- the record that the octets begin with, and the octets behind it; if there is no whole record, the end that the
+-- octets mean
 abbrev pub taken_from : List ℕ → Result (Option (MrtRecord × List ℕ)) MrtFault
 taken_from octets =
     if has_record octets then Ok (Some (front_record octets, after_record octets))

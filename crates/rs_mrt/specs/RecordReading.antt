@@ -1,5 +1,5 @@
--- The records that a reader of records shows, of the octets that its reader gives. Our choices: no more than
--- 2^50 octets are taken from a reader, and of a record's body no more than its first 4,121 octets are shown.
+-- The records that a reader of records shows, of the octets that its reader gives. Our choices: at most 2^50 octets
+-- are taken from a reader. Of a record's body at most the first 4,121 octets are shown.
 use Rattle.std.specs.Prelude.{◌≡◌, ℕ, ◌+◌, ◌-◌, nat_lt, if◌then◌else◌, Bool, List, [], ◌++◌, length, take, map, Option}
 use Rattle.std.specs.Prelude.{Some, None, Result, Ok, Err, refl}
 use Rattle.std.specs.Option.{option_map}
@@ -16,16 +16,17 @@ use Rattle.rs_mrt.specs.Entry.{front_of}
 abbrev pub read_limit : ℕ
 read_limit = 1125899906842624
 
--- the end of octets of which only so many are taken: where there are as many, the reader isn't asked how they end
+-- The end of octets if at most so many are taken. If that many were taken, the reader isn't asked how its octets
+-- end.
 abbrev pub end_within : ℕ → List ℕ → ReadEnd → ReadEnd
 end_within most octets end = if nat_lt (length octets) most then end else ReadFails
 
--- the reader, and how many octets came of it
+-- the reader, and how many octets came from it
 pub record Inflow (R : Type 0) : Type 0 where
   pub reader : R
   pub came : ℕ
 
--- These octets may still arrive, and end so: what the reader may give, up to the limit.
+-- These octets and this end may still arrive: what the reader may give, up to the limit.
 pub record MayArrive {R : Type 0} (gives : R → List ℕ → ReadEnd → Type 0) (inflow : Inflow R) (octets : List ℕ)
     (end : ReadEnd) : Type 0 where
   pub all : List ℕ
@@ -36,13 +37,13 @@ pub record MayArrive {R : Type 0} (gives : R → List ℕ → ReadEnd → Type 0
 
 -- ---- the records
 
--- how records end that leave this rest: by a read that fails, or as the rest says
+-- the end of the records if these octets are left over: a failed read, or what the rest means
 abbrev pub fault_behind : ReadEnd → List ℕ → Option SourceFault
 fault_behind ReadFails rest = Some Read
 fault_behind FileEnds rest = option_map Mrt (fault_of_rest rest)
 
--- These records may still be shown, and then this end or fault, where these octets are held and others may arrive: the
--- front of each record of all these octets.
+-- These records may still be shown, and then this end or fault, if `held` are the octets at hand and others may
+-- arrive. Of each record of all these octets, the front is shown.
 pub record MayBeShown (arrive : List ℕ → ReadEnd → Type 0) (held : List ℕ) (records : List MrtRecord)
     (fault : Option SourceFault) : Type 0 where
   pub octets : List ℕ
@@ -53,15 +54,15 @@ pub record MayBeShown (arrive : List ℕ → ReadEnd → Type 0) (held : List �
 
 -- ---- a reader of records
 
--- what arrives, the octets that are held behind the record that is shown, that record, and the answer that it
--- gives from now on, where it has stopped
+-- A reader of records: what arrives, the octets at hand behind the record that is shown, and that record. `stopped`
+-- is the answer that it repeats from now on, if it has reached an end or a fault.
 pub record RecordReading (R : Type 0) : Type 0 where
   pub inflow : Inflow R
   pub held : List ℕ
   pub shown : Option MrtRecord
   pub stopped : Option (Result Bool SourceFault)
 
--- nothing was read yet
+-- a reader of records before its first record
 abbrev pub unread : {R : Type 0} → R → RecordReading R
 unread reader = record { inflow = record { reader = reader; came = 0 }; held = []; shown = None; stopped = None }
 
@@ -70,7 +71,7 @@ abbrev pub fault_of : Result Bool SourceFault → Option SourceFault
 fault_of (Ok more) = None
 fault_of (Err fault) = Some fault
 
--- what may come of the octets; where it has stopped, no record, and the end or the fault that was answered
+-- What may come of the octets. After an end or a fault was answered, no record comes, and the answer is repeated.
 abbrev pub ComesUnless : Option (Result Bool SourceFault) → (List MrtRecord → Option SourceFault → Type 0)
     → List MrtRecord → Option SourceFault → Type 0
 ComesUnless None comes records fault = comes records fault
@@ -81,7 +82,7 @@ abbrev pub MayCome : {R : Type 0} → (R → List ℕ → ReadEnd → Type 0) �
     → Option SourceFault → Type 0
 MayCome gives reading = ComesUnless reading.stopped (MayBeShown (MayArrive gives reading.inflow) reading.held)
 
--- something always may
+-- there is always something that may come
 some_shown : {R : Type 0} (gives : R → List ℕ → ReadEnd → Type 0) (inflow : Inflow R) (held : List ℕ)
     → SomethingIsGiven (gives inflow.reader) → SomethingComes (MayBeShown (MayArrive gives inflow) held)
 some_shown gives inflow held some =
@@ -106,10 +107,10 @@ something_comes gives reading some =
     comes_unless reading.stopped (MayBeShown (MayArrive gives reading.inflow) reading.held)
     (some_shown gives reading.inflow reading.held some)
 
--- at least as many octets as it holds and still takes
+-- at most so many octets: those at hand and those that are still taken
 abbrev pub room_left : {R : Type 0} → RecordReading R → ℕ
 room_left reading = length reading.held + (read_limit - reading.inflow.came)
 
--- A reader of records that has stopped gives the same answer for ever and stays as it is: it asks no more.
+-- After an end or a fault, a reader of records repeats its answer, stays as it is and reads no more.
 abbrev pub StaysStopped : {R : Type 0} → RecordReading R → RecordReading R → Result Bool SourceFault → Type 0
 StaysStopped old new result = (last : Result Bool SourceFault) → old.stopped ≡ Some last → (result ≡ last) × (new ≡ old)

@@ -18,7 +18,7 @@ use byteorder::{BigEndian, ByteOrder};
 /// The Type of records of BGP sessions (RFC 6396, section 4.4).
 pub const BGP4MP: u16 = 16;
 
-/// The Type of the same records with microseconds (RFC 6396, section 4.5).
+/// The Type of records of BGP sessions with microseconds (RFC 6396, section 4.5).
 pub const BGP4MP_ET: u16 = 17;
 
 /// The Subtype of a BGP message, with AS numbers of four octets (RFC 6396, section 4.4.3).
@@ -52,9 +52,9 @@ const NEW_STATE_AT: usize = 22;
 
 const STATES_END: usize = 24;
 
-/// Reads what a record says. Nothing is copied: a message stands in the record's octets. The fault is
-/// `MicrosecondsCutShort` where a BGP4MP_ET body has fewer than 4 octets, else `FieldsCutShort` where a body
-/// of Subtype 4 or 5 is shorter than its fields.
+/// Reads what a record says. Nothing is copied: a message is a part of the record's octets. The fault is
+/// `MicrosecondsCutShort` if a BGP4MP_ET body has fewer than 4 octets. It is `FieldsCutShort` if a body of Subtype 4
+/// or 5 is shorter than its fields.
 // Part of its callers: as a call it would write the fields to memory, to be read again, for each record.
 #[inline(always)]
 #[tactic(auto, unfolding(crate::specs::Entry::entry_of))]

@@ -1,8 +1,8 @@
-//! A reader around another one, which gives the octets within bounds: those of the whole records before the first one
-//! that is later than a time, as if the file ended there (RFC 6396, section 2).
+//! A reader around another reader, which gives the octets within bounds: those of the whole records before the first
+//! record that is later than a time. The octets end there as if the file ended there (RFC 6396, section 2).
 //!
-//! Our choices: within bounds records are given whole, so the reader keeps each one until its last octet came.
-//! What isn't a whole record is given only at the end of the file, where the tail is strict. Behind the header of the
+//! Our choices: within bounds, records are given whole, so the reader keeps each record until its last octet came. A
+//! record that is cut short is given only at the end of the file, if the tail is strict. Behind the header of the
 //! first later record nothing is read. Memory that is refused is a failed read.
 
 ghost use Rattle.std.specs.Prelude.{◌≡◌, ◌+◌, ◌<◌, ◌≤◌, ◌++◌, [], false, IfOk, OnErr, OnOk, length, take, drop, min};
@@ -25,18 +25,18 @@ use std::marker::Model;
 // How many octets are read in one call.
 const PIECE_LEN: usize = 8192;
 
-/// A reader that gives the octets of another one within bounds. Where the bounds leave nothing out it only passes
-/// calls on. Else it keeps what came of one record more than it gave, and takes memory for that.
+/// A reader that gives the octets of another reader within bounds. If the bounds leave nothing out, it only passes
+/// calls on. Otherwise it keeps the octets of one record that it has not given yet, and takes memory for that.
 #[derive(Drop)]
 pub struct BoundedReader<R> {
     reader: R,
     bounds: Bounds,
     // The octets that came, from a record on.
     held: Vec<u8>,
-    // How many of them were given, and how many may be given.
+    // How many of these octets were given, and how many may be given.
     given: usize,
     cleared: usize,
-    // Whether nothing comes behind those that may be given.
+    // Whether nothing comes behind the octets that may be given.
     ended: bool,
     refused: u64,
 }
@@ -82,7 +82,7 @@ impl<R> BoundedReader<R> {
         self.given < self.cleared
     }
 
-    // Whether nothing comes behind those that are ready.
+    // Whether nothing comes behind the octets that are ready.
     fn has_ended(&self) -> bool
         ensures { result ≡ self.now.ended }
     {
@@ -174,8 +174,8 @@ impl<R: Read> BoundedReader<R> {
         Ok(true)
     }
 
-    // Makes the whole records that came ready, once one did that isn't later; ends before a later one, and at the end
-    // of the reader.
+    // Makes whole records ready that came and are not later. It ends before a later record, and at the end of the
+    // reader.
     fn go_on(&mut self) -> Result<(), Failed>
         requires ready { self.old.ready ≡ [] }
         requires failures { calls_failed R.failures self.old < u64.MAX }
@@ -206,7 +206,8 @@ impl<R: Read> BoundedReader<R> {
         Ok(())
     }
 
-    // Ends at the end of the reader: what isn't a whole record is ready where the tail is strict, and else left out.
+    // Ends at the end of the reader. A record that is cut short is ready if the tail is strict, and left out
+    // otherwise.
     fn end_at_rest(&mut self)
         requires { self.old.ready ≡ [] }
         ensures { EndsAtRest self.old self.new }
@@ -250,7 +251,7 @@ fn is_later(until: Option<u32>, timestamp: u32) -> bool
     }
 }
 
-// How many octets the record at the front takes, where it is whole and not later.
+// How many octets the first record takes, if it is whole and not later.
 fn front_len(octets: &[u8], until: Option<u32>) -> Option<usize>
     ensures { result ≡ front_len until octets.now }
 {
@@ -264,7 +265,7 @@ fn front_len(octets: &[u8], until: Option<u32>) -> Option<usize>
     Some(HEADER_LEN + length)
 }
 
-// How many octets the whole records at the front take that come before a later one.
+// How many octets the whole records take that come before a later one.
 fn cleared_len(octets: &[u8], bounds: Bounds) -> usize
     ensures clears { Clears bounds octets.now result }
     ensures some { result ≡ 0 → front_len bounds.until octets.now ≡ None }

@@ -17,7 +17,7 @@ pub enum Tail {
 #[derive(Clone, Copy, Debug, PartialEq, Eq, Drop)]
 pub struct Bounds {
     /// Up to when records are read, in seconds since 1970: the file ends before the first one that is later. All of
-    /// them where it isn't given.
+    /// them if it isn't given.
     pub until: Option<u32>,
     /// What becomes of a record that the end of the file cuts short.
     pub tail: Tail,

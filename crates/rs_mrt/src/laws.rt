@@ -38,7 +38,7 @@ pub fn known_octets_are_shown<R: Read>(_reader: &R, _file: &[u8])
 {}
 
 /// What is read of a file within bounds is a file too, a beginning of it. Its records are those before the first that
-/// is later. It ends as the file does where no record is later and the tail is strict, else after whole records.
+/// is later. It ends as the file does if no record is later and the tail is strict, else after whole records.
 /// Bounds that are open leave nothing out.
 pub fn what_is_within_bounds()
     ensures beginning { IsBeginning }

@@ -86,7 +86,7 @@ impl Write for MemoryWriter {
         ensures bound { IfOk result (λ n. n ≤ length piece.now) }
         ensures taken { WriteAppends (Some self.old.taken) (Some self.new.taken) result piece.now }
         ensures failures { self.new.failures ≡ self.old.failures + failed_calls result piece.now }
-        // Where memory isn't refused either, it takes just this many.
+        // If memory isn't refused either, it takes just this many.
         ensures amount { IfOk result (λ n. amount_of self.old (length piece.now) ≡ Some n) }
         ensures left { self.new ≡ after_write self.old piece.now result }
     {
@@ -107,7 +107,7 @@ impl Write for MemoryWriter {
     }
 }
 
-// How many octets of a piece are taken, where so many were taken before; none where the call is to fail.
+// How many octets of a piece are taken if so many were taken before; None if the call is to fail.
 fn amount(limits: &Limits, taken: usize, piece: usize) -> Option<usize>
     ensures { result ≡ amount_within (limits_of limits.now) taken piece }
 {

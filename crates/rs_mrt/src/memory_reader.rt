@@ -116,7 +116,7 @@ impl<'a> Read for MemoryReader<'a> {
     }
 }
 
-// How many octets are given where so many are wanted; none where the call is to fail.
+// How many octets are given if so many are wanted; None if the call is to fail.
 fn amount(limits: &ReadLimits, wanted: usize) -> Option<usize>
     ensures { result ≡ amount_at limits.now.calls_before_failure limits.now.octets_before_failure wanted }
 {

@@ -18,8 +18,8 @@ pub trait Read {
     // How many calls failed.
     ghost failures: { Self → ℕ };
 
-    /// Gives octets to the front of the piece and answers how many: none at the end of the file, or where the piece is
-    /// empty. Refused, it has given none.
+    /// Puts octets into the beginning of the piece and answers how many. It answers 0 at the end of the file, or if
+    /// the piece is empty. If the call fails, it has given no octets.
     fn read(&mut self, into: &mut [u8]) -> Result<usize, Failed>
         requires { failures self.old < u64.MAX }
         ensures bound { IfOk result (λ n. n ≤ length into.new) }

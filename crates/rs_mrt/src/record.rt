@@ -23,7 +23,7 @@ pub(crate) const SUBTYPE_AT: usize = 6;
 
 pub(crate) const LENGTH_AT: usize = 8;
 
-/// A record, whose body stands in the octets that it was read from.
+/// A record, whose body is a part of the octets that it was read from.
 #[derive(Clone, Copy, Debug, PartialEq, Eq, Drop)]
 pub struct Record<'a> {
     /// The Timestamp, in seconds since 1970.
@@ -63,9 +63,9 @@ impl<'a> Records<'a> {
         }
     }
 
-    /// Gives the next record. The fault is `HeaderCutShort` where 1 to 11 octets are left, and `BodyCutShort` where
-    /// fewer are left behind a header than its Length. At the end it answers none from then on, after a fault that
-    /// fault. Nothing is copied.
+    /// Gives the next record. The fault is `HeaderCutShort` if 1 to 11 octets are left, and `BodyCutShort` if fewer
+    /// octets follow a header than its Length says. After the end it always answers None, and after a fault it
+    /// always answers that fault. Nothing is copied.
     pub fn next(&mut self) -> Result<Option<Record<'a>>, MrtFault>
         ensures answer { seen record_of result ≡ next_of self.old.left self.old.end }
         ensures left { self.new ≡ after_next self.old.left self.old }
@@ -82,7 +82,7 @@ impl<'a> Records<'a> {
     }
 }
 
-// The record at the front and the octets after it; none where no octets are left.
+// The record at the front and the octets after it; none if no octets are left.
 fn take_record(octets: &[u8]) -> Result<Option<(Record<'_>, &[u8])>, MrtFault>
     ensures value { seen (λ f. (record_of f.0, f.1.now)) result ≡ taken_from octets.now }
     ensures bound { length octets.now < 2 ^ 64 }

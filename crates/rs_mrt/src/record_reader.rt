@@ -27,7 +27,7 @@ pub struct RecordReader<R: Read> {
     window: Window,
     // How many octets of its body are shown of the record that stands at the front of the window.
     shown: Option<usize>,
-    // The answer from now on, where it has stopped.
+    // The answer that it repeats from now on, after an end or a fault.
     stopped: Option<Result<bool, SourceFault>>,
 }
 
@@ -61,7 +61,7 @@ impl<R: Read> RecordReader<R> {
         }
     }
 
-    // Lets go of the record that is shown.
+    // Drops the record that is shown.
     fn drop_shown(&mut self)
         ensures { self.new ≡ record self.old { shown = None } }
     {
@@ -71,7 +71,7 @@ impl<R: Read> RecordReader<R> {
         }
     }
 
-    // Goes to the next record; where there is none, stops.
+    // Goes to the next record. If there is none, its answer is repeated from now on.
     fn go_on(&mut self) -> Result<bool, SourceFault>
         requires asks { self.old.stopped ≡ None }
         requires shown { self.old.shown ≡ None }
@@ -109,13 +109,14 @@ impl<R: Read> Source for RecordReader<R> {
         ensures records { Advances (MayCome R.gives) self.old self.new self.new.shown result }
         ensures bound { room_left self.old < 2 ^ 64 }
         ensures room { room_left self.new + octets_of self.new.shown ≤ room_left self.old }
-        // A read that fails is counted. Without one the answer is `Read` only at the limit, or where it was before.
+        // A read that fails is counted. Without a failed read, the answer is `Read` only at the limit, or if it was
+        // given before.
         ensures failures { CountsFailure (R.failures self.old.inflow.reader) (R.failures self.new.inflow.reader)
             (self.new.inflow.came ≡ read_limit) self.old.stopped result }
         ensures stays { Stays self.old.stopped (R.failures self.old.inflow.reader)
             (R.failures self.new.inflow.reader) result }
         ensures stops { Stops self.new.stopped result }
-        // Once it has stopped, the reader is asked no more.
+        // After an end or a fault, the reader is never read again.
         ensures asks_no_more { StaysStopped self.old self.new result }
     {
         if let Some(answer) = self.stopped {

@@ -17,7 +17,7 @@ pub trait Source {
     // These records may still come, and after them the end, or that fault: one of the octets, or a failed read.
     ghost comes: { Self → List MrtRecord → Option SourceFault → Type 0 };
 
-    // The answer that it gives from now on, where it has stopped.
+    // The answer that it repeats from now on, after an end or a fault.
     ghost stopped: { Self → Option (Result Bool SourceFault) };
 
     // How many reads failed.
@@ -29,8 +29,8 @@ pub trait Source {
     // At least as many octets as spell the records that it will still show, fewer than 2 to the 64th.
     ghost room: { Self → ℕ };
 
-    /// Goes to the next record and answers whether there is one. At the end it answers `false` from then on, after a
-    /// fault that fault. All whole records that came before a failed read are gone to first.
+    /// Goes to the next record and answers whether there is one. After the end it always answers `false`, and after
+    /// a fault it always answers that fault. All whole records that came before a failed read are gone to first.
     fn advance(&mut self) -> Result<bool, SourceFault>
         ensures records { Advances comes self.old self.new (shows self.new) result }
         ensures bound { room self.old < 2 ^ 64 }

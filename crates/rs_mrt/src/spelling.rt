@@ -8,9 +8,9 @@ use crate::record::{HEADER_LEN, KIND_AT, LENGTH_AT, SUBTYPE_AT};
 use byteorder::{BigEndian, ByteOrder};
 use std::alloc::AllocError;
 
-/// Appends the header of a record whose body has `body_len` octets: 12 octets, which the Length doesn't
-/// count. `time` is in seconds since 1970. Refused memory, `out` is as before; where it has room for them, no
-/// memory is taken, and the call succeeds.
+/// Appends the header of a record whose body has `body_len` octets. The header has 12 octets, which the Length
+/// doesn't count. `time` is in seconds since 1970. If memory is refused, `out` is unchanged. If `out` has room, no
+/// memory is taken and the call succeeds.
 pub fn write_header(
     out: &mut Vec<u8>,
     time: u32,
@@ -20,7 +20,7 @@ pub fn write_header(
 ) -> Result<(), AllocError>
     ensures ok { OnOk result (out.new.items ≡ out.old.items ++ header_spelling time kind subtype body_len) }
     ensures err { OnErr result (VecUnchanged out.old out.new) }
-    // No memory is taken where there is room.
+    // No memory is taken if there is room.
     ensures succeeds { vec_len out.old + header_len ≤ vec_capacity out.old → IsOk result }
     ensures capacity { vec_capacity out.old ≤ vec_capacity out.new }
 {

@@ -25,16 +25,16 @@ impl Error for Failed {}
 
 /// What takes octets.
 pub trait Write {
-    // The octets that it has taken, where it tells them.
+    // The octets that it has taken, if it says so.
     ghost taken: { Self → Option (List ℕ) };
 
-    // The name for which it was given, where it tells it. No write changes it.
+    // The name for which it was given, if it says so. No write changes the name.
     ghost label: { Self → Option (List ℕ) } = { λ _. None };
 
     // How many calls failed: answered an error, or took nothing of a piece that isn't empty.
     ghost failures: { Self → ℕ };
 
-    /// Takes octets from the front of the piece and answers how many. Refused, it has taken none.
+    /// Takes octets from the beginning of the piece and answers how many. If the call fails, it has taken none.
     fn write(&mut self, piece: &[u8]) -> Result<usize, Failed>
         requires { failures self.old < u64.MAX }
         ensures bound { IfOk result (λ n. n ≤ length piece.now) }
@@ -43,7 +43,8 @@ pub trait Write {
         ensures failures { failures self.new ≡ failures self.old + failed_calls result piece.now };
 }
 
-/// Writes all octets of the piece, in as many calls as the writer wants. Refused, it has written a beginning of them.
+/// Writes all octets of the piece, in as many calls as the writer wants. If a call fails, a beginning of the piece
+/// was written.
 pub fn write_all<W: Write>(out: &mut W, piece: &[u8]) -> Result<(), Failed>
     requires { W.failures out.old < u64.MAX }
     ensures ok { OnOk result (Appends (W.taken out.old) (W.taken out.new) piece.now) }

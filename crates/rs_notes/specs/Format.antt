@@ -7,7 +7,7 @@ use Rattle.rs_notes.specs.declared.format.Format.{Format}
 use Rattle.rs_notes.specs.declared.format.Format.TheVariants.{Compressed, Zip, Pcap, Text}
 use Rattle.rs_inventory.specs.Compression.{begins, compression_name}
 
--- packets: the magic number of pcap in either order of octets, by microseconds and by nanoseconds, and that of pcapng
+-- packets: the magic number of pcap in either order of octets, for microseconds and nanoseconds, or that of pcapng
 abbrev pub is_pcap : List ℕ → Bool
 is_pcap octets =
     begins (0xa1 ∷ 0xb2 ∷ 0xc3 ∷ 0xd4 ∷ []) octets || begins (0xd4 ∷ 0xc3 ∷ 0xb2 ∷ 0xa1 ∷ []) octets
@@ -18,7 +18,7 @@ is_pcap octets =
 abbrev pub is_text_octet : ℕ → Bool
 is_text_octet octet = (nat_le 32 octet && nat_le octet 126) || (octet == 9) || (octet == 10) || (octet == 13)
 
--- there are octets, and all of them are a text's
+-- there are octets, and all of them are octets of a text
 abbrev pub is_text : List ℕ → Bool
 is_text octets = not (length octets == 0) && list_all is_text_octet octets
 
@@ -30,7 +30,7 @@ format_of octets =
     else if is_text octets then Some Text
     else None
 
--- its name in notes
+-- the name of a format in notes
 abbrev pub format_name : Format → List ℕ
 format_name (Compressed compression) = compression_name compression
 format_name Zip = codes "zip"

@@ -1,5 +1,5 @@
--- What is noted of a recorded file of which a run kept nothing. Nothing here is of a standard but the lengths (RFC
--- 6396, sections 2 and 4.4.2): all of it is our choice.
+-- What is noted of a recorded file if a run kept nothing of it. Only the lengths are from a standard (RFC 6396,
+-- sections 2 and 4.4.2): the rest is our choice.
 use Rattle.std.specs.Prelude.{ℕ, ◌==◌, ◌+◌, ◌*◌, ◌&&◌, ◌||◌, nat_le, nat_lt, not, true, Bool, if◌then◌else◌, List}
 use Rattle.std.specs.Prelude.{Option, Some, None, length, slice_index}
 use Rattle.std.specs.Option.{option_map}
@@ -19,7 +19,7 @@ use Rattle.rs_inventory.specs.declared.peer.Peer.{Peer}
 abbrev pub count_of : Content → Kind → ℕ
 count_of held kind = slice_index held.kinds (place_of kind)
 
--- how many records that a route server reads are a peer's
+-- how many records of a peer are of kinds that a route server reads
 abbrev pub records_in : Option PeerContent → ℕ
 records_in None = 0
 records_in (Some content) = counted (content.messages + content.state_changes)
@@ -27,7 +27,7 @@ records_in (Some content) = counted (content.messages + content.state_changes)
 abbrev pub records_of : Content → Peer → ℕ
 records_of held peer = records_in (peer_at held.peers peer)
 
--- the records have room for the fields of a session behind their headers
+-- the records have room for the fields of a session after their headers
 abbrev pub have_bodies : ℕ → Option ℕ → Bool
 have_bodies records None = true
 have_bodies records (Some octets) = nat_le (counted (counted (records * 12) + 16)) octets
@@ -44,7 +44,7 @@ is_known held =
 abbrev pub is_all : Content → Kind → Bool
 is_all held kind = count_of held kind == held.records
 
--- the kind of all records, where a route server reads none of it
+-- the kind of all records, if there is one kind and a route server reads none of it
 abbrev pub only_kind : Content → Option Kind
 only_kind held =
     if is_all held kinds.TableDumpV2 then Some kinds.TableDumpV2
@@ -53,7 +53,7 @@ only_kind held =
     else if is_all held kinds.Ipv6 then Some kinds.Ipv6
     else None
 
--- what is noted of a file that isn't compressed
+-- the note on a file that isn't compressed
 abbrev pub hint_of_records : Content → List ℕ → Peer → Option Hint
 hint_of_records held front peer =
     if nat_lt 0 (records_of held peer) then None
@@ -64,6 +64,6 @@ abbrev pub hint_unless : Option Compression → Content → List ℕ → Peer �
 hint_unless (Some compression) held front peer = Some (NotMrt (Compressed compression))
 hint_unless None held front peer = hint_of_records held front peer
 
--- what is noted of a file that holds this and begins with these octets
+-- the note on a file that has this content and begins with these octets
 abbrev pub hint_of : Content → List ℕ → Peer → Option Hint
 hint_of held front peer = hint_unless held.compression held front peer

@@ -1,4 +1,4 @@
--- The texts of notes. Nothing here is of a standard: all of it is our choice.
+-- The texts of notes. Nothing here is from a standard: all of it is our choice.
 use Rattle.std.specs.Prelude.{ℕ, [], ◌++◌, Option, None, Some, codes}
 use Rattle.std.specs.Fmt.{decimal}
 use Rattle.std.specs.Int.{to_be_bytes, w32}
@@ -14,7 +14,7 @@ use Rattle.rs_mrt.specs.declared.bounds.Tail.{Tail}
 use Rattle.rs_mrt.specs.declared.bounds.Tail.TheVariants.{Strict, Lenient}
 use Rattle.rs_host.specs.Line.{Text, one_line}
 
--- what all records are, where one kind explains them
+-- the kind of all records, if they are of one kind that explains the note
 abbrev pub kind_text : Option Kind → Text
 kind_text (Some kinds.TableDumpV2) = codes ", all TABLE_DUMP_V2"
 kind_text (Some kinds.TwoOctet) = codes ", all of two-octet sessions"
@@ -23,11 +23,11 @@ kind_text (Some kinds.Ipv6) = codes ", all of IPv6 peers"
 kind_text (Some kind) = []
 kind_text None = []
 
--- of a file of another format: its path, and the format's name
+-- the text for a file of another format: its path, and the format's name
 abbrev pub format_text : Text → Text → Text
 format_text path format = one_line path ++ (codes " is " ++ (format ++ codes "; only uncompressed MRT is read"))
 
--- whose records are looked for
+-- the text that says whose records are looked for
 abbrev pub whose_text : Peer → Text
 whose_text peer = ipv4_text (to_be_bytes w32 peer.address) ++ (codes " AS " ++ decimal peer.asn)
 
@@ -35,21 +35,22 @@ whose_text peer = ipv4_text (to_be_bytes w32 peer.address) ++ (codes " AS " ++ d
 abbrev pub count_text : ℕ → Option Kind → Text
 count_text others kind = decimal others ++ (codes " of others" ++ kind_text kind)
 
--- of a file whose records are all of others: its path, whose are looked for, and how many there are
+-- the text for a file whose records are all of other peers: its path, whose records are looked for, and how many
+-- there are
 abbrev pub others_text : Text → Text → Text → Text
 others_text path whose count =
     codes "no record of " ++ (whose ++ (codes " in " ++ (one_line path ++ (codes " (" ++ (count ++ codes ")")))))
 
--- what is noted
+-- the text of each note
 abbrev pub text_of : Text → Peer → Hint → Text
 text_of path peer (NotMrt format) = format_text path (format_name format)
 text_of path peer (NoRecord others kind) = others_text path (whose_text peer) (count_text others kind)
 
--- and the text of the note, of a peer of this name
+-- the text of a note about a peer of this name
 abbrev pub note_of : Text → Text → Peer → Hint → Text
 note_of name path peer hint = codes "peer " ++ (name ++ (codes ": " ++ text_of path peer hint))
 
--- what becomes of the octets of a record that is cut short
+-- the text that says what is done with a record that is cut short
 abbrev pub loss_text : Tail → Text
 loss_text Strict = codes "lost"
 loss_text Lenient = codes "left out"

@@ -69,7 +69,7 @@ impl<'a> Contents<'a> {
     }
 }
 
-/// What the file at a path holds, where that is known.
+/// What the file at a path holds, if that is known.
 pub fn contents_of<'b, 'a>(all: &'b [Contents<'a>], path: &str) -> Option<&'b Contents<'a>> {
     all.iter().find(|contents| contents.path == path)
 }
@@ -90,7 +90,7 @@ pub(crate) fn add_contents<'a, R: AllocGlobal + Files>(
     let _ = all.push(Contents::new(path, front, held));
 }
 
-// Where the file at a path ends within a record, where it gives its octets each time it is read.
+// Where the file at a path ends within a record, if it gives its octets each time it is read.
 fn cut_at<R: AllocGlobal + Files>(rt: &R, path: &str, until: Option<u32>) -> Option<Cut> {
     if !is_file(rt, path) {
         return None;
@@ -100,8 +100,8 @@ fn cut_at<R: AllocGlobal + Files>(rt: &R, path: &str, until: Option<u32>) -> Opt
     cut_of(rt.alloc(), until, whole, all)
 }
 
-/// The outline of the file at a path, where it gives its octets each time it is read. Where a recorder is given, no
-/// other one counts.
+/// The outline of the file at a path, if it gives its octets each time it is read. If a recorder is given, no other
+/// one counts.
 pub(crate) fn outline_at<R: AllocGlobal + Files>(
     rt: &R,
     path: &str,
@@ -124,8 +124,8 @@ pub(crate) fn is_file<R: Files>(rt: &R, path: &str) -> bool {
     }
 }
 
-/// Of what format other than MRT the file at a path is, by its first octets: zip, pcap or text. `held` is what its
-/// records hold. None where one of them is of a known kind, and where the file gives its octets only once.
+/// The format of the file at a path, by its first octets, if it is not MRT: zip, pcap or text. `held` is the content
+/// of its records. None if one of its records is of a known kind, or if the file gives its octets only once.
 pub fn format_at<R: AllocGlobal + Files>(rt: &R, path: &str, held: &Inventory) -> Option<Format> {
     if is_known(held) {
         return None;
@@ -133,7 +133,7 @@ pub fn format_at<R: AllocGlobal + Files>(rt: &R, path: &str, held: &Inventory) -
     Format::of(&front_at(rt, path)?)
 }
 
-/// The first octets of the file at a path, at most `FRONT_LEN`: none where it may give its octets only once, or can't be
+/// The first octets of the file at a path, at most `FRONT_LEN`: none if it may give its octets only once, or can't be
 /// read.
 pub fn front_at<R: AllocGlobal + Files>(rt: &R, path: &str) -> Option<Vec<u8>> {
     if !is_file(rt, path) {

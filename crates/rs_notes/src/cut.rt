@@ -20,7 +20,7 @@ pub struct Cut {
 }
 
 /// Where a file that is read up to a time ends within a record: `whole` and `all` give it from its first octet. None
-/// where it ends after whole records, or a read fails.
+/// if it ends after whole records, or a read fails.
 pub(crate) fn cut_of<R: Read + Drop>(
     alloc: Global,
     until: Option<u32>,
@@ -54,7 +54,7 @@ pub(crate) fn cut_of<R: Read + Drop>(
     }
 }
 
-// How many octets a reader gives within bounds; none where a read fails.
+// How many octets a reader gives within bounds; none if a read fails.
 fn octets_of<R: Read + Drop>(alloc: Global, reader: R, bounds: Bounds) -> Option<u64>
     requires { R.failures reader < u64.MAX }
 {

@@ -26,8 +26,8 @@ pub(crate) struct Doubts<'a> {
     later: Group<'a>,
     // Peers of which messages aren't read.
     unread: Group<'a>,
-    // Peers whose recordings begin in mid-session, peers of which a session began again without a recorded loss, and
-    // peers of which a loss is recorded with the address of no peer.
+    // Three groups of peers: those whose recordings begin in mid-session, and those whose session began again
+    // without a recorded loss. The third are those of which a loss is recorded with the address of no peer.
     inside: Group<'a>,
     again: Group<'a>,
     lost: Group<'a>,
@@ -131,7 +131,7 @@ impl<'a> Doubts<'a> {
     }
 }
 
-// What is told of a peer whose file is empty.
+// The note on a peer whose file is empty.
 fn empty_told(alloc: Global, name: &str, path: &str) -> Result<Told, AllocError> {
     let text = empty_text(alloc, path)?;
     Ok(Told {
@@ -140,7 +140,7 @@ fn empty_told(alloc: Global, name: &str, path: &str) -> Result<Told, AllocError>
     })
 }
 
-// What is told of a peer whose records are all later than a time.
+// The note on a peer whose records are all later than a time.
 fn later_told(alloc: Global, name: &str, until: u32, first: u32) -> Result<Told, AllocError> {
     let (until, first) = (up_to_text(alloc, "it", until)?, first_text(alloc, first)?);
     Ok(Told {
@@ -149,7 +149,7 @@ fn later_told(alloc: Global, name: &str, until: u32, first: u32) -> Result<Told,
     })
 }
 
-// What is told of a peer of which messages aren't read.
+// The note on a peer of which messages aren't read.
 fn unread_told(alloc: Global, name: &str, unread: Unread) -> Result<Told, AllocError> {
     let detail = unread_text(alloc, unread)?;
     Ok(Told {
@@ -158,7 +158,7 @@ fn unread_told(alloc: Global, name: &str, unread: Unread) -> Result<Told, AllocE
     })
 }
 
-// What is told of a peer whose recording begins in mid-session.
+// The note on a peer whose recording begins in mid-session.
 fn inside_told(alloc: Global, name: &str) -> Result<Told, AllocError> {
     Ok(Told {
         line: inside_line(alloc, name)?,
@@ -166,7 +166,7 @@ fn inside_told(alloc: Global, name: &str) -> Result<Told, AllocError> {
     })
 }
 
-// What is told of a peer of which a session began again at a time.
+// The note on a peer of which a session began again at a time.
 fn again_told(alloc: Global, name: &str, time: u32) -> Result<Told, AllocError> {
     Ok(Told {
         line: again_line(alloc, name, time)?,
@@ -174,7 +174,7 @@ fn again_told(alloc: Global, name: &str, time: u32) -> Result<Told, AllocError> 
     })
 }
 
-// What is told of a peer of which a loss is recorded with the address of no peer.
+// The note on a peer of which a loss is recorded with the address of no peer.
 fn lost_told(alloc: Global, name: &str, lost: Lost) -> Result<Told, AllocError> {
     let text = lost_text(alloc, lost)?;
     Ok(Told {

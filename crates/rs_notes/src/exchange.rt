@@ -74,7 +74,7 @@ fn is_inside(subnet: Prefix, address: u32) -> bool {
     }
 }
 
-// The text of the note on the server, if messages are recorded, but none of a session with it. Where a file could not be
+// The text of the note on the server, if messages are recorded, but none of a session with it. If a file could not be
 // read again, nothing is known of its messages.
 fn server_note<R: AllocGlobal + Files>(
     rt: &R,

@@ -22,7 +22,7 @@ pub enum Format {
     Text,
 }
 
-/// How many octets of a file tell its format.
+/// How many octets of a file show its format.
 pub const FRONT_LEN: usize = 12;
 
 // How a zip archive begins, and files of packets: pcap in either order of octets, by microseconds and by nanoseconds,
@@ -40,7 +40,7 @@ const PCAP_NANOSECONDS_TURNED: [u8; 4] = [0x4d, 0x3c, 0xb2, 0xa1];
 const PCAPNG: [u8; 4] = [0x0a, 0x0d, 0x0d, 0x0a];
 
 impl Format {
-    /// The format of a file without a record of a known kind that begins with these octets; none where they tell none.
+    /// The format of a file without a record of a known kind that begins with these octets; None if they show none.
     pub(crate) fn of(front: &[u8]) -> Option<Format>
         ensures { result ≡ format_of front.now }
     {

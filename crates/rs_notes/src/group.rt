@@ -17,19 +17,19 @@ pub(crate) struct Told {
     pub detail: Detail,
 }
 
-/// What a line on several peers tells of one of them.
+/// What a line on several peers says of one of them.
 #[derive(Drop)]
 pub(crate) enum Detail {
     /// Nothing: the text on all of them says it.
     Nothing,
     /// What the text on all of them doesn't say.
     Part(String),
-    /// All. It stands alone if it is the same of each peer.
+    /// The whole detail. It stands alone if it is the same for each peer.
     Whole(String),
 }
 
 impl Detail {
-    // Whether all that is told of a peer is this.
+    // Whether the other detail says nothing else of its peer.
     fn is_all_of(&self, other: &Detail) -> bool {
         match (self, other) {
             (Detail::Whole(one), Detail::Whole(other)) => one == other,
@@ -38,7 +38,7 @@ impl Detail {
     }
 }
 
-/// Peers of which one kind of note tells, in configured order.
+/// Peers that one kind of note is about, in configured order.
 #[derive(Drop)]
 pub(crate) struct Group<'a> {
     // The names of the first ones, at most `NAMED`.
@@ -74,7 +74,7 @@ impl<'a> Group<'a> {
         self.count = self.count.saturating_add(1);
     }
 
-    // Whether all that is told of a peer is what is told of the first one.
+    // Whether the note on a peer says the same as that on the first one.
     fn is_first(&self, told: &Result<Told, AllocError>) -> bool {
         match (&self.first, told) {
             (Some(first), Ok(told)) => first.detail.is_all_of(&told.detail),
@@ -88,7 +88,7 @@ impl<'a> Group<'a> {
     }
 
     /// The line on these peers, with a text on several of them. None if memory for the text on the first one was
-    /// refused. Fails if memory is refused.
+    /// refused.
     pub(crate) fn line(&self, alloc: Global, several: &str) -> Result<Option<String>, AllocError> {
         let Some(first) = &self.first else {
             return Ok(None);
@@ -106,7 +106,7 @@ impl<'a> Group<'a> {
         Ok(Some(line))
     }
 
-    // The line with what is told of the first peer.
+    // The line with the detail of the first peer.
     fn detailed(
         &self,
         alloc: Global,

@@ -19,13 +19,13 @@ pub enum Hint {
     NoRecord {
         /// How many others there are.
         others: u64,
-        /// Of what kind all of them are, where a route server reads none of that kind.
+        /// The kind of all records, if a route server reads none of that kind.
         kind: Option<Kind>,
     },
 }
 
-// How many octets the header of a record has (RFC 6396, section 2), and the fields before a message of a session with
-// two-octet AS numbers (RFC 6396, section 4.4.2).
+// How many octets the header of a record has (RFC 6396, section 2). Below, how many the fields before a message have
+// in a session with two-octet AS numbers (RFC 6396, section 4.4.2).
 const HEADER_LEN: u64 = 12;
 
 const FIELDS_LEN: u64 = 16;
@@ -85,7 +85,7 @@ fn has_bodies(held: &Inventory) -> bool
     }
 }
 
-// The kind of all records, where a route server reads none of it.
+// The kind of all records, if a route server reads none of it.
 fn only_kind(held: &Inventory) -> Option<Kind>
     ensures { result ≡ only_kind held.now }
 {

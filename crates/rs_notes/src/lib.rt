@@ -7,6 +7,8 @@
 //! (what a file shows of which nothing was kept). Then the notes: `note` (their texts), `group` (one line on several
 //! peers), `mistakes`, `doubts`, `exchange`, `notes`. What files hold, made while they are read: `outline`, `noting`,
 //! `outlines`.
+//!
+//! A call that allocates fails if memory is refused.
 #![tactic(auto)]
 
 mod contents;

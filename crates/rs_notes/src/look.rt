@@ -21,7 +21,7 @@ pub(crate) enum Look {
     Later(u32),
     /// It is empty.
     Empty,
-    /// There is nothing to tell.
+    /// There is nothing to note.
     Plain,
 }
 

@@ -100,7 +100,7 @@ impl<'a> Mistakes<'a> {
     }
 }
 
-// What is told of a peer whose file is probably the wrong one.
+// The note on a peer whose file is probably the wrong one.
 fn told_by(
     alloc: Global,
     name: &str,
@@ -122,7 +122,7 @@ fn told_by(
     })
 }
 
-// Whether a file may end within a record, where a session closed so that was read with this tail.
+// Whether a file may end within a record, if a session that was read with this tail closed so.
 pub(crate) fn may_be_cut(tail: Tail, close: Close) -> bool {
     match tail {
         Tail::Strict => close == Close::WithinRecord,

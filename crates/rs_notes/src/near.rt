@@ -38,7 +38,7 @@ pub(crate) fn near_of(setup: &Setup, held: &Inventory, wanted: Peer) -> Option<N
     found
 }
 
-// Whether just one of address and AS number is the same.
+// Whether exactly one of address and AS number is equal.
 fn is_near(peer: Peer, wanted: Peer) -> bool {
     (peer.asn == wanted.asn) != (peer.address == wanted.address)
 }

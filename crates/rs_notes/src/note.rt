@@ -18,8 +18,8 @@ use rs_types::Prefix;
 use std::alloc::{AllocError, Global};
 use std::net::Ipv4Addr;
 
-/// The text of what is noted of a peer's recorded file, without a line break at its end: `name` is the peer's, `path`
-/// that of its file, whose control characters are escaped. Fails where memory is refused.
+/// The text of what is noted of a peer's recorded file, without a line break at its end: `name` is the peer's,
+/// `path` that of its file, whose control characters are escaped.
 pub fn note_line(
     alloc: Global,
     name: &str,
@@ -33,8 +33,8 @@ pub fn note_line(
     format!(in alloc; "peer {name}: {text}")
 }
 
-/// The text of the note on a recorded file that ends within a record, without a line break at its end: `path` is that
-/// of the file, whose control characters are escaped. Fails where memory is refused.
+/// The text of the note on a recorded file that ends within a record, without a line break at its end: `path` is
+/// that of the file, whose control characters are escaped.
 pub fn cut_line(alloc: Global, path: &str, cut: Cut, tail: Tail) -> Result<String, AllocError>
     ensures { IfOk result (λ line. string_bytes line ≡ cut_note path.now cut tail) }
 {
@@ -45,7 +45,7 @@ pub fn cut_line(alloc: Global, path: &str, cut: Cut, tail: Tail) -> Result<Strin
     )
 }
 
-/// The same text, which says how the file is cut there. Fails where memory is refused.
+/// The text that says how the file is cut there.
 pub(crate) fn advised_line(
     alloc: Global,
     path: &str,
@@ -59,8 +59,7 @@ pub(crate) fn advised_line(
     )
 }
 
-/// The text of the note on several recorded files that end within a record: on the first one, and so many more. Fails
-/// where memory is refused.
+/// The text of the note on several recorded files that end within a record: on the first one, and so many more.
 pub(crate) fn cut_lines(
     alloc: Global,
     path: &str,
@@ -85,7 +84,7 @@ fn loss_text(tail: Tail) -> &'static str
     }
 }
 
-/// What is noted of a peer's recorded file. Fails where memory is refused.
+/// What is noted of a peer's recorded file.
 pub(crate) fn hint_text(
     alloc: Global,
     path: &str,
@@ -144,7 +143,7 @@ fn address_of(address: u32) -> Ipv4Addr
     Ipv4Addr::from(address)
 }
 
-// What all records are, where one kind explains them.
+// The kind of all records, if one kind explains them.
 fn kind_text(kind: Option<Kind>) -> &'static str
     ensures { result.now ≡ kind_text kind }
 {
@@ -157,14 +156,14 @@ fn kind_text(kind: Option<Kind>) -> &'static str
     }
 }
 
-/// The text of the note on a peer whose recording begins in mid-session. Fails where memory is refused.
+/// The text of the note on a peer whose recording begins in mid-session.
 pub(crate) fn inside_line(alloc: Global, name: &str) -> Result<String, AllocError> {
     format!(in alloc;
         "peer {name}: the recording begins in mid-session; routes announced before are missing"
     )
 }
 
-/// The text of the note on a peer whose session began again at a time. Fails where memory is refused.
+/// The text of the note on a peer whose session began again at a time.
 pub(crate) fn again_line(alloc: Global, name: &str, time: u32) -> Result<String, AllocError> {
     let time = Utc(time);
     format!(in alloc;
@@ -172,8 +171,7 @@ pub(crate) fn again_line(alloc: Global, name: &str, time: u32) -> Result<String,
     )
 }
 
-/// Which peer of a file is probably meant, behind the text that the file has no record of its peer. Fails where memory
-/// is refused.
+/// Which peer of a file is probably meant, behind the text that the file has no record of its peer.
 pub(crate) fn near_text(alloc: Global, near: Near) -> Result<String, AllocError> {
     let (whose, records) = (whose_text(alloc, near.peer)?, near.records);
     let what = if near.by_address {
@@ -184,25 +182,25 @@ pub(crate) fn near_text(alloc: Global, near: Near) -> Result<String, AllocError>
     format!(in alloc; "; {whose} has {records}: is its {what} meant?")
 }
 
-/// The text on an empty file. Fails where memory is refused.
+/// The text on an empty file.
 pub(crate) fn empty_text(alloc: Global, path: &str) -> Result<String, AllocError> {
     let path = on_one_line(alloc, path)?;
     format!(in alloc; "{path} is empty")
 }
 
-/// The text on peers, named by a pronoun, of which no record is read up to a time. Fails where memory is refused.
+/// The text on peers, named by a pronoun, of which no record is read up to a time.
 pub(crate) fn up_to_text(alloc: Global, whom: &str, until: u32) -> Result<String, AllocError> {
     let until = Utc(until);
     format!(in alloc; "no record of {whom} up to {until} UTC")
 }
 
-/// Of which time the first record of such a peer is. Fails where memory is refused.
+/// Of which time the first record of such a peer is.
 pub(crate) fn first_text(alloc: Global, first: u32) -> Result<String, AllocError> {
     let first = Utc(first);
     format!(in alloc; "its first is of {first} UTC")
 }
 
-/// How many messages of a peer aren't read, and which. Fails where memory is refused.
+/// How many messages of a peer aren't read, and which.
 pub(crate) fn unread_text(alloc: Global, unread: Unread) -> Result<String, AllocError> {
     let mut text = String::new(alloc);
     add_count(&mut text, unread.add_path, "of ADD-PATH sessions")?;
@@ -221,7 +219,7 @@ fn add_count(text: &mut String, count: u64, kind: &str) -> Result<(), AllocError
     Ok(())
 }
 
-/// The text on a loss that is recorded with the address of no peer. Fails where memory is refused.
+/// The text on a loss that is recorded with the address of no peer.
 pub(crate) fn lost_text(alloc: Global, lost: Lost) -> Result<String, AllocError> {
     let time = Utc(lost.time);
     let address = if lost.is_swapped {
@@ -232,13 +230,13 @@ pub(crate) fn lost_text(alloc: Global, lost: Lost) -> Result<String, AllocError>
     format!(in alloc; "a loss at {time} UTC is recorded {address}; --losses inferred counts it")
 }
 
-/// The text of the note on a recorded file in which times go back. Fails where memory is refused.
+/// The text of the note on a recorded file in which times go back.
 pub(crate) fn back_line(alloc: Global, path: &str, back: Back) -> Result<String, AllocError> {
     let (path, text) = (on_one_line(alloc, path)?, back_text(alloc, back)?);
     format!(in alloc; "{path}: times go back {text} (pieces joined in the wrong order?)")
 }
 
-/// The text of the note on several such files: on the first one, and so many more. Fails where memory is refused.
+/// The text of the note on several such files: on the first one, and so many more.
 pub(crate) fn back_lines(
     alloc: Global,
     path: &str,
@@ -260,20 +258,20 @@ fn back_text(alloc: Global, back: Back) -> Result<String, AllocError> {
     }
 }
 
-/// The text of the note on a subnet in which nobody is. Fails where memory is refused.
+/// The text of the note on a subnet in which nobody is.
 pub(crate) fn subnet_line(alloc: Global, subnet: Prefix) -> Result<String, AllocError> {
     let (address, len) = (address_of(subnet.address()), subnet.len());
     format!(in alloc; "subnet {address}/{len} has neither the server nor any peer")
 }
 
-/// At which time something happened, behind a text on several peers. Fails where memory is refused.
+/// At which time something happened, behind a text on several peers.
 pub(crate) fn at_text(alloc: Global, time: u32) -> Result<String, AllocError> {
     let time = Utc(time);
     format!(in alloc; "at {time} UTC")
 }
 
-/// The text of the note on files of which no record names the server as their recorder; the first message of the file
-/// at a path names another one. Fails where memory is refused.
+/// The text of the note on files of which no record names the server as their recorder. The first message of the
+/// file at a path names another one.
 pub(crate) fn server_line(
     alloc: Global,
     server: Peer,

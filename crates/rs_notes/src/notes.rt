@@ -41,7 +41,7 @@ impl Notes {
         }
     }
 
-    /// Adds one, where memory for its text isn't refused.
+    /// Adds one, if memory for its text isn't refused.
     pub(crate) fn add(&mut self, text: Result<String, AllocError>) {
         self.any = true;
         self.add_as_asked(text);
@@ -131,7 +131,7 @@ pub fn notes_of<R: AllocGlobal + Files>(
     notes
 }
 
-// What is told of peers.
+// The notes on peers.
 #[derive(Drop)]
 struct ByPeer<'a> {
     mistakes: Mistakes<'a>,
@@ -140,7 +140,7 @@ struct ByPeer<'a> {
 }
 
 impl<'a> ByPeer<'a> {
-    // Takes what is told of a peer, whose session ended so.
+    // Takes the notes on a peer, whose session ended so.
     fn take<R: AllocGlobal + Files>(
         &mut self,
         rt: &R,
@@ -179,7 +179,7 @@ impl<'a> ByPeer<'a> {
     }
 }
 
-// How the session of a peer ended, where something may be noted of it.
+// How the session of a peer ended, if something may be noted of it.
 fn ending_of(endings: Option<&[Ending]>, peer: usize, held: &Inventory) -> Option<Ending> {
     match endings {
         Some(endings) => endings.get(peer).copied(),

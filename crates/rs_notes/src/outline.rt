@@ -230,7 +230,7 @@ impl Outline {
     }
 }
 
-/// The outline of the file at a path, where it gives its octets each time it is read.
+/// The outline of the file at a path, if it gives its octets each time it is read.
 pub(crate) fn outlined_at<R: AllocGlobal + Files>(
     rt: &R,
     path: &str,

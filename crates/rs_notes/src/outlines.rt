@@ -40,7 +40,7 @@ impl Outlines {
         Outlines::within(alloc, setup, up_to(until))
     }
 
-    /// The same, if so much is read of each file.
+    /// The outlines of the files, if so much is read of each file.
     pub fn within(alloc: Global, setup: &Setup, bounds: Bounds) -> Outlines {
         let local = setup.plan.local();
         let server = Peer {

@@ -14,7 +14,7 @@ pub enum Close {
     AtFault,
 }
 
-/// How the recorded session of a peer ended, as far as notes tell of it.
+/// How the recorded session of a peer ended, as far as notes need it.
 #[derive(Clone, Copy, Debug, PartialEq, Eq)]
 pub struct Ending {
     /// How many changes its file gave.
@@ -39,11 +39,11 @@ pub struct Subject<'a> {
     pub setup: &'a Setup,
     /// How much of each file was read.
     pub bounds: Bounds,
-    /// How the session of each peer ended. A peer without an ending here gets no note. Where no endings are given, the
+    /// How the session of each peer ended. A peer without an ending here gets no note. If no endings are given, the
     /// ends of the files decide them.
     pub endings: Option<&'a [Ending]>,
     /// Which notes are wanted.
     pub telling: Telling,
-    /// Whether losses are counted that no record names as the peer's. Then no note tells of a loss that is missing.
+    /// Whether losses are counted that no record names as the peer's. Then no note says that a loss is missing.
     pub inferred: bool,
 }

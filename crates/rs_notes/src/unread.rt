@@ -73,7 +73,7 @@ impl Unread {
         }
     }
 
-    // The same with those of another one.
+    // The counts with those of another peer added.
     fn with(self, other: Unread) -> Unread {
         Unread {
             add_path: self.add_path.saturating_add(other.add_path),
@@ -102,7 +102,7 @@ impl UnreadMessages {
         }
     }
 
-    /// Takes the next record of the file. Fails if memory is refused.
+    /// Takes the next record of the file.
     pub(crate) fn take(&mut self, record: &Record<'_>) -> Result<(), AllocError> {
         let Some((peer, found)) = unread_in(record) else {
             return Ok(());
@@ -115,7 +115,8 @@ impl UnreadMessages {
         Ok(())
     }
 
-    /// How many of a peer aren't read. Two-octet AS numbers tell the peer by its address if its own has four octets.
+    /// How many messages of a peer aren't read. If its own AS number has four octets, messages with two-octet AS
+    /// numbers are found by its address.
     pub(crate) fn of(&self, peer: Peer) -> Unread {
         let own = self.count_of(peer);
         if peer.asn <= u32::from(u16::MAX) {

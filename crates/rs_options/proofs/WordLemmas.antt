@@ -29,7 +29,7 @@ the_one : (kind one : ErrorKind) → IsAmong kind (one ∷ []) → kind ≡ one
 the_one kind one (inl same) = same
 the_one kind one (inr none) = absurd none
 
--- an error of one of these kinds is told as they say
+-- an error of one of these kinds becomes the fault that they give
 pub told_as : (kinds : Kinds) (error : Error) (fault : WordsFault) → HasKind kinds error → IsToldAs (kind_of error) fault
     → SaysWhy kinds fault
 told_as kinds error (Help text) (inl memory) (inl is) =

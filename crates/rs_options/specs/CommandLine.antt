@@ -33,12 +33,12 @@ config_rule = required_option (codes "config")
 abbrev pub out_rule : Rule
 out_rule = record (required_option (codes "out")) { parser = Some NonEmptyString }
 
--- an option of one value, with the value that it has where the words don't give it
+-- an option of one value, with a default for when the words don't give it
 abbrev pub option_or : Text → Text → Rule
 option_or name default =
     record (new_rule name) { long = Some name; action = Some Set; value_names = 1; defaults = default ∷ [] }
 
--- an option of one value, without one where the words don't give it
+-- an option of one value, without a default
 abbrev pub free_option : Text → Rule
 free_option name = record (new_rule name) { long = Some name; action = Some Set; value_names = 1 }
 
@@ -46,15 +46,15 @@ free_option name = record (new_rule name) { long = Some name; action = Some Set;
 abbrev pub time_rule : Rule
 time_rule = record (free_option (codes "time")) { parser = Some (Signed (pos 0) (pos 4294967295)) }
 
--- how many changes wait between two threads: 1 to 65,536, and 1,024 where the words don't give it (our choice)
+-- how many changes wait between two threads: 1 to 65,536; the default is 1,024 (our choice)
 abbrev pub ring_rule : Rule
 ring_rule = record (option_or (codes "ring") (codes "1024")) { parser = Some (Unsigned 1 65536) }
 
--- how many threads keep the tables: 1 to 16, and 1 where the words don't give it (our choice)
+-- how many threads have the tables: 1 to 16; the default is 1 (our choice)
 abbrev pub shards_rule : Rule
 shards_rule = record (option_or (codes "shards") (codes "1")) { parser = Some (Unsigned 1 16) }
 
--- the standard by which faults are handled, by its name: RFC 4271 where the words don't give it (our choice)
+-- the standard by which faults are handled, by its name; the default is RFC 4271 (our choice)
 abbrev pub errors_rule : Rule
 errors_rule = option_or (codes "errors") (codes "rfc4271")
 
@@ -62,11 +62,11 @@ errors_rule = option_or (codes "errors") (codes "rfc4271")
 abbrev pub until_rule : Rule
 until_rule = free_option (codes "until")
 
--- what becomes of a record that is cut short, by its name: strict where the words don't give it (our choice)
+-- what is done with a record that is cut short, by its name; the default is strict (our choice)
 abbrev pub tail_rule : Rule
 tail_rule = option_or (codes "tail") (codes "strict")
 
--- which losses count, by their name: those that are recorded if the words don't say (our choice)
+-- which losses count, by their name; the default is those that are recorded (our choice)
 abbrev pub losses_rule : Rule
 losses_rule = option_or (codes "losses") (codes "recorded")
 
@@ -74,7 +74,7 @@ losses_rule = option_or (codes "losses") (codes "recorded")
 abbrev pub flag : Text → Rule
 flag name = record (new_rule name) { long = Some name; action = Some SetTrue }
 
--- whether a run that isn't clean has a status of its own, and writes nothing, or writes all (our choice)
+-- what a run does if it isn't clean: it has a status of its own, and writes nothing or all (our choice)
 abbrev pub strict_rule : Rule
 strict_rule = flag (codes "strict")
 
@@ -97,7 +97,7 @@ with_bounds app = with_rule (with_rule (with_rule app until_rule) tail_rule) los
 abbrev pub with_strictness : App → App
 with_strictness app = with_rule (with_rule app strict_rule) strict_after_rule
 
--- a command that tells its version
+-- a command that can print its version
 abbrev pub with_version : App → App
 with_version app = on_top (λ shape. record shape { has_version = true }) app
 
@@ -119,12 +119,12 @@ abbrev pub losses_name : Losses → Text
 losses_name Recorded = codes "recorded"
 losses_name Inferred = codes "inferred"
 
--- there is a time just where the words give one
+-- there is a time exactly if the words give one
 abbrev pub IsTimeGiven : Option Text → Option ℕ → Type 0
 IsTimeGiven None until = until ≡ None
 IsTimeGiven (Some text) until = IsSome until
 
--- what was found holds how much of each file is read
+-- the values that were found say how much of each file is read
 pub record HoldBounds (rows : List Row) (bounds : Bounds) : Type 0 where
   pub until : IsTimeGiven (first_of (codes "until") rows) bounds.until
   pub tail : first_of (codes "tail") rows ≡ Some (tail_name bounds.tail)
@@ -143,13 +143,13 @@ pub record IsFlag (found : Option Text) (flag : Bool) : Type 0 where
   pub given : found ≡ Some (codes "true") → flag ≡ true
   pub absent : found ≡ Some (codes "false") → flag ≡ false
 
--- what becomes of a run that isn't clean, by the two flags: if both are given, the first one counts
+-- what a run does if it isn't clean, by the two flags; if both are given, the first one counts
 abbrev pub strict_by : Bool → Bool → Strictness
 strict_by true after = BeforeWriting
 strict_by false true = AfterWriting
 strict_by false false = Off
 
--- the two flags that were found ask for this
+-- the values that were found are these two flags
 pub record HoldStrict (rows : List Row) (strict : Strictness) : Type 0 where
   pub before : Bool
   pub after : Bool
@@ -157,7 +157,8 @@ pub record HoldStrict (rows : List Row) (strict : Strictness) : Type 0 where
   pub after_found : IsFlag (one_of (codes "strict-after") rows) after
   pub asked : strict ≡ strict_by before after
 
--- what was found for each argument holds these options, numbers as numbers and the standard by its name
+-- the values that were found for each argument are these options; numbers count as numbers, and the standard by its
+-- name
 pub record HoldOptions (rows : List Row) (options : Options) : Type 0 where
   pub config : first_of (codes "config") rows ≡ Some (string_bytes options.config)
   pub out : first_of (codes "out") rows ≡ Some (string_bytes options.out)
@@ -171,23 +172,23 @@ pub record HoldOptions (rows : List Row) (options : Options) : Type 0 where
   pub losses : first_of (codes "losses") rows ≡ Some (losses_name options.losses)
   pub strict : HoldStrict rows options.strict
 
--- the options are the values that the command's matches of the words hold, the default included
+-- the options are the values that the command finds in the words, or the defaults
 abbrev pub AreOptionsOf : List Text → Options → Type 0
 AreOptionsOf words options = HoldOptions (matches_of program words) options
 
--- what `clap` finds in the words, a request for help or for the version included: its error is of one of
--- these kinds; none where it takes them
+-- The kinds of error that `clap` finds in the words, among them requests for help or for the version. There are none
+-- if it accepts the words.
 abbrev pub faults_in : List Text → Kinds
 faults_in words = fault_of program words
 
--- a kind of error, and what it is told as
+-- a kind of error, and the fault that a caller gets for it
 abbrev pub IsToldAs : ErrorKind → WordsFault → Type 0
 IsToldAs kind (Help text) = (kind ≡ DisplayHelp) ⊎ (kind ≡ DisplayVersion)
 IsToldAs kind (Refused text) = (kind ≢ DisplayHelp) × (kind ≢ DisplayVersion) × (kind ≢ OutOfMemory)
 IsToldAs kind Memory = ⊤
 
--- words are answered with help only where asking for help or for the version is among what is found in them, and
--- aren't refused where that is all that is found
+-- Help is answered only if the words ask for help or for the version, among other things. The words are refused only
+-- if there is some other error.
 abbrev pub SaysWhy : Kinds → WordsFault → Type 0
 SaysWhy kinds (Help text) = IsAmong DisplayHelp kinds ⊎ IsAmong DisplayVersion kinds
 SaysWhy kinds (Refused text) = (kinds ≢ DisplayHelp ∷ []) × (kinds ≢ DisplayVersion ∷ [])

@@ -6,7 +6,7 @@ ghost use Rattle.rs_update.specs.declared.errors.Errors.TheVariants.{Rfc4271, Rf
 
 use rs_update::Errors;
 
-/// The standard that a word of a command line names: `rfc4271` or `rfc7606`; none where it is another word.
+/// The standard that a word of a command line names: `rfc4271` or `rfc7606`; none if it is another word.
 pub fn standard_of(word: &str) -> Option<Errors>
     ensures named { IfSome result (λ errors. word.now ≡ standard_name errors) }
     ensures none { result ≡ None → (word.now ≢ standard_name Rfc4271) × (word.now ≢ standard_name Rfc7606) }

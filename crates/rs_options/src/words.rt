@@ -92,30 +92,30 @@ const STRICT_HELP: &str =
 // What `--strict-after` does, in its help.
 const STRICT_AFTER_HELP: &str = "Writes all, and then ends with status 5 as --strict does";
 
-// The text where an option has no value.
+// The text if an option has no value.
 const INCOMPLETE: &str = "error: an option has no value\n";
 
-// The text where the value of `--errors` names no standard.
+// The text if the value of `--errors` names no standard.
 const NO_STANDARD: &str =
     "error: the value of '--errors <STANDARD>' is neither 'rfc4271' nor 'rfc7606'
 
 For more information, try '--help'.
 ";
 
-// The text where the value of `--until` is no time.
+// The text if the value of `--until` is no time.
 const NO_TIME: &str =
     "error: the value of '--until <TIME>' is neither seconds since 1970 nor as '2026-11-22T06:36:20Z'
 
 For more information, try '--help'.
 ";
 
-// The text where the value of `--tail` is no way to read the end of a file.
+// The text if the value of `--tail` is no way to read the end of a file.
 const NO_TAIL: &str = "error: the value of '--tail <TAIL>' is neither 'strict' nor 'lenient'
 
 For more information, try '--help'.
 ";
 
-// The text where the value of `--losses` names no losses.
+// The text if the value of `--losses` names no losses.
 const NO_LOSSES: &str =
     "error: the value of '--losses <LOSSES>' is neither 'recorded' nor 'inferred'
 
@@ -130,9 +130,9 @@ For more information, try '--help'.
 /// `read_time` takes it. Defaults: the time is TIME, or 0 without it; the ring 1,024, the shards 1, the standard RFC
 /// 4271, the tail strict, the losses those recorded. If both flags are given, `--strict` counts.
 ///
-/// Answers `Help` where help or the version is asked for, with the text of `clap`. Answers `Refused` where the words
+/// Answers `Help` where help or the version is asked for, with the text of `clap`. Answers `Refused` if the words
 /// aren't such, with the text of `clap`, or one of our own where `--errors`, `--until`, `--tail` or `--losses` has no
-/// such value. Answers `Memory` where memory is refused.
+/// such value. Answers `Memory` if memory is refused.
 pub fn read_words(alloc: Global, words: Vec<String>) -> Result<Options, WordsFault>
     ensures options { IfOk result (λ options. AreOptionsOf (map string_bytes words.items) options) }
     ensures taken { OnOk result (faults_in (map string_bytes words.items) ≡ []) }
@@ -144,8 +144,8 @@ pub fn read_words(alloc: Global, words: Vec<String>) -> Result<Options, WordsFau
     }
 }
 
-// The options that the matches hold. `clap` gives each that is needed or has a default a value, and numbers within
-// their limits, so nothing is refused here but memory and a word that names no standard, no time and no tail.
+// The options that the matches hold. `clap` gives a value to each that is needed or has a default, and numbers are
+// within their limits. So only memory is refused here, and a word that names no standard, no time and no tail.
 fn options_of(alloc: Global, matches: &ArgMatches<'_>) -> Result<Options, WordsFault>
     ensures options { IfOk result (HoldOptions (rows_of (found_of matches.now))) }
     ensures refused { IfErr result (SaysWhy []) }
@@ -237,7 +237,7 @@ fn losses_in(alloc: Global, matches: &ArgMatches<'_>) -> Result<Losses, WordsFau
     }
 }
 
-/// The losses that a word of a command line names: `recorded` or `inferred`; none where it is another word.
+/// The losses that a word of a command line names: `recorded` or `inferred`; none if it is another word.
 pub fn losses_of(name: &str) -> Option<Losses>
     ensures { IfSome result (λ losses. name.now ≡ losses_name losses) }
 {
@@ -343,8 +343,8 @@ fn with_strictness<'a>(alloc: Global, command: Command<'a>) -> Result<Command<'a
     with_option(command, strict_after_argument(alloc))
 }
 
-// The command with one option more. One equation is all that it says, so that the functions that add several are
-// proved without a search in all that `clap` says of a command.
+// The command with one option more. Its contract is one equation. So the functions that add several are proved
+// without a search in the whole contract of `clap`.
 fn with_option<'a>(command: Command<'a>, option: Arg<'a>) -> Result<Command<'a>, AllocError>
     requires { option.global ≡ false }
     ensures { IfOk result (λ made. app_of made ≡ with_rule (app_of command.entry) (rule_of option.entry)) }
@@ -352,7 +352,7 @@ fn with_option<'a>(command: Command<'a>, option: Arg<'a>) -> Result<Command<'a>,
     command.arg(option)
 }
 
-// An option of one value, without one where the words don't give it.
+// An option of one value, without one if the words don't give it.
 fn free_option<'a>(alloc: Global, name: &'a str, value: &'a str, help: &'a str) -> Arg<'a>
     ensures rule { rule_of result ≡ free_option name.now }
     ensures local { result.global ≡ false }

@@ -1,5 +1,5 @@
-//! An outlet over memory, which tells what it has kept and for which dumps a writer is out. It can be made to fail, for
-//! tests of those who write dumps.
+//! An outlet over memory, which says which dumps it has kept and which writers it has given away. It can be made to
+//! fail, for tests of those who write dumps.
 
 ghost use Rattle.std.specs.Prelude.{◌≡◌, ◌+◌, ◌<◌, ◌∷◌, ◌++◌, [], Some, None, length, map, slice_index_or};
 ghost use Rattle.std.specs.Prelude.{string_bytes, IfOk, OnOk, OnErr};
@@ -26,8 +26,8 @@ pub struct Kept {
 /// When an outlet over memory, or a writer of its, fails.
 #[derive(Clone, Copy, Debug, Drop)]
 pub struct OutletLimits {
-    /// How many calls to start or to keep a dump go well before the one that is refused; without a number
-    /// none is refused for this. Calls after it go well.
+    /// How many calls to start or to keep a dump succeed before the one that is refused. Without a number, none is
+    /// refused for this. Calls after it succeed.
     pub calls_before_refusal: Option<u64>,
     /// How many dumps are kept before the one whose writer has limits.
     pub dumps_before_limits: usize,
@@ -56,7 +56,7 @@ impl OutletLimits {
 pub struct MemoryOutlet {
     alloc: Global,
     kept: Vec<Kept>,
-    // The names of the dumps for which a writer is out.
+    // The names of the dumps whose writers it has given away.
     started: Vec<String>,
     failures: u64,
     limits: OutletLimits,
@@ -130,8 +130,7 @@ impl MemoryOutlet {
         })
     }
 
-    // Gives a writer and adds its name to those for which one is out, unless the call is to be refused or there is no
-    // memory.
+    // Gives a writer and adds its name to those given away, unless the call is to be refused or there is no memory.
     fn try_start(&mut self, name: &str) -> Result<NamedWriter, Unopened>
         ensures named { IfOk result (λ out. string_bytes out.name ≡ name.now) }
         ensures fresh { IfOk result (λ out. out.inner.failures ≡ 0) }
@@ -156,7 +155,7 @@ impl MemoryOutlet {
         }
     }
 
-    // Takes this name out of those for which a writer is out.
+    // Takes this name out of those given away.
     fn take_back(&mut self, name: &str) -> String
         requires { Contains self.old.started name.now }
         ensures name { string_bytes result ≡ name.now }

@@ -1,4 +1,4 @@
-//! A writer over memory that tells for which dump it was given.
+//! A writer over memory that says for which dump it was given.
 
 ghost use Rattle.std.specs.Prelude.{Some, string_bytes};
 

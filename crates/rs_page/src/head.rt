@@ -63,7 +63,7 @@ fn add_range(text: &mut String, shown: &Shown<'_>) -> Result<(), AllocError> {
     }
 }
 
-// Adds the notes, where there are any. Many are folded, so that the pictures stay in sight.
+// Adds the notes, if there are any. Many are folded, so that the pictures stay in sight.
 fn add_notes(text: &mut String, shown: &Shown<'_>) -> Result<(), AllocError> {
     if shown.notes.is_empty() {
         return Ok(());

@@ -69,7 +69,7 @@ fn add_columns(text: &mut String, changes: &Changes, most: u64) -> Result<(), Al
     close_picture(text)
 }
 
-// Adds a column, where anything changed in its part.
+// Adds a column, if anything changed in its part.
 fn add_column(
     text: &mut String,
     changes: &Changes,

@@ -121,7 +121,7 @@ fn add_lane(
     Ok(())
 }
 
-// Adds a session, with a mark where it ended.
+// Adds a session, with a mark at its end.
 fn add_span(
     text: &mut String,
     alloc: Global,

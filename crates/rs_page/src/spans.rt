@@ -12,7 +12,7 @@ pub(crate) enum End {
     Up,
     /// No record says how.
     Unrecorded,
-    /// It was lost: in this way, where that is known.
+    /// It was lost: in this way, if that is known.
     Lost(Option<Loss>),
     /// It closed, for this reason.
     Closed(Reason),
@@ -135,7 +135,7 @@ fn loss_at(losses: &[(u32, Option<Loss>)], down: u32) -> Option<Loss> {
     None
 }
 
-// Adds a span, cut off where the session closed before it ends, and left out where it closed before it begins.
+// Adds a span, cut off if the session closed before it ends, and left out if it closed before it begins.
 fn add_span(
     spans: &mut Vec<Span>,
     span: Span,

@@ -44,7 +44,7 @@ pub(crate) struct PeerTimes {
     pub(crate) spans: Vec<Span>,
 }
 
-/// What the recorded files of a setup show within bounds, where it is known what they hold.
+/// What the recorded files of a setup show within bounds, if it is known what they hold.
 pub(crate) fn times_of<R: AllocGlobal + Files>(
     rt: &R,
     setup: &Setup,
@@ -118,7 +118,7 @@ fn range_of(setup: &Setup, contents: &[Contents<'_>]) -> (Option<u32>, Option<u3
     (first, last)
 }
 
-// The earlier of two times, where there are two.
+// The earlier of two times, if there are two.
 fn earlier(one: Option<u32>, other: Option<u32>) -> Option<u32> {
     match (one, other) {
         (Some(one), Some(other)) => Some(one.min(other)),
@@ -127,7 +127,7 @@ fn earlier(one: Option<u32>, other: Option<u32>) -> Option<u32> {
     }
 }
 
-// The later of two times, where there are two.
+// The later of two times, if there are two.
 fn later(one: Option<u32>, other: Option<u32>) -> Option<u32> {
     match (one, other) {
         (Some(one), Some(other)) => Some(one.max(other)),
@@ -199,7 +199,7 @@ fn hear<R: Read + Drop>(
     Ok(ends)
 }
 
-// How the session was lost, where that is the change that it gave last.
+// How the session was lost, if that is the change that it gave last.
 fn loss_behind<R: Read>(session: &Session<RecordReader<R>>, word: &Word) -> Option<Loss> {
     match word.body {
         Body::Down => loss_of(&session.shown()?),

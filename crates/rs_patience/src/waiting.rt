@@ -1,6 +1,6 @@
-//! How a thread waits for another one at a ring: seven times it spins, twice as long each time, then four times
-//! it leaves the processor to others, then it sleeps, twice as long each time up to a limit. A thread that goes
-//! on soon loses little, and one that waits for long burns no processor.
+//! How a thread waits for another one at a ring: seven times it spins, twice as long each time, then four times it
+//! leaves the processor to others. Then it sleeps, twice as long each time up to a limit. A thread that goes on soon
+//! loses little, and one that waits for long burns no processor.
 //!
 //! Nothing is claimed of time.
 
@@ -27,7 +27,7 @@ const LONGEST_SLEEP_OF_MANY: u64 = 81_920;
 #[derive(Drop)]
 pub struct Patience {
     backoff: Backoff,
-    // Nobody wakes it: it only sleeps.
+    // Nobody wakes this parker: it only sleeps.
     parker: Parker,
     // How long the next sleep is, in microseconds.
     sleep: u64,
@@ -99,8 +99,8 @@ pub fn send_when_room<T: Closing>(
     }
 }
 
-// Waits until half of a full ring is free, so that a thread that is woken has much to send; one that has
-// waited for so long that its sleeps are at their longest waits for any room.
+// Waits until half of a full ring is free, so that a thread that is woken has much to send. A thread whose sleeps
+// have reached their longest waits for any room.
 fn wait_for_room<T: Closing>(rt: &impl Wait, sender: &mut Sender<T>, patience: Patience)
     ensures room { 0 < sender.new.room }
     ensures same { sender.new ≡ record sender.old { room = sender.new.room } }

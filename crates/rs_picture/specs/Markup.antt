@@ -4,13 +4,13 @@ use Rattle.std.specs.Char.{is_control}
 use Rattle.std.specs.List.{flat_map}
 use Rattle.std.specs.Str.{chars}
 
--- Whether no markup may have a character (XML 1.0, section 2.2): a control character, or U+FFFE or U+FFFF. Line breaks
--- and tabs are left out too, since no text here needs them.
+-- Whether a character may not stand in markup (XML 1.0, section 2.2): a control character, or U+FFFE or U+FFFF. Line
+-- breaks and tabs are left out too, since no text here needs them.
 abbrev pub is_barred : ℕ → Bool
 is_barred character = is_control character || (character == 65534 || character == 65535)
 
--- A character as it is shown (XML 1.0, section 2.4): that which a reader could take for markup as an entity, a barred
--- one as U+FFFD, any other as it is.
+-- A character as it is shown (XML 1.0, section 2.4). If a reader could take it for markup, it is shown as an entity.
+-- If it may not stand in markup, it is shown as U+FFFD. Any other is unchanged.
 abbrev pub shown : ℕ → List ℕ
 shown character =
     if character == 60 then codes "&lt;"

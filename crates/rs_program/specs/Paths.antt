@@ -1,4 +1,4 @@
--- The path of a dump. Nothing here is of a standard: all of it is our choice.
+-- The path of a dump. Nothing here is from a standard: all of it is our choice.
 use Rattle.std.specs.Prelude.{ℕ, eqb, codes, if◌then◌else◌, List, ◌++◌}
 use Rattle.std.specs.List.{ends_with}
 

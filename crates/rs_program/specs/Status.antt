@@ -9,7 +9,7 @@ use Rattle.rs_options.specs.declared.options.Strictness.{Strictness}
 use Rattle.rs_options.specs.declared.options.Strictness.TheVariants.{Off, BeforeWriting, AfterWriting}
 use Rattle.rs_outlet.specs.declared.run_fault.RunFault.TheVariants as run
 
--- the status of a run that did not fail: whether it must be clean, and whether it is
+-- the status of a run that did not fail, by whether it must be clean and whether it is
 abbrev pub run_status : Strictness → Bool → ℕ
 run_status Off clean = done
 run_status BeforeWriting true = done
@@ -17,7 +17,7 @@ run_status BeforeWriting false = not_clean
 run_status AfterWriting true = done
 run_status AfterWriting false = not_clean
 
--- the status of each way to stop short
+-- the status for each reason why the program ends early
 abbrev pub status_of : Ended → ℕ
 status_of (Words fault) = words_status fault
 status_of (Setup fault) = setup_status fault
@@ -29,7 +29,7 @@ status_of (Run (run.Dump client)) = failed
 status_of (Run run.Report) = failed
 status_of (Run (run.Read peer)) = failed
 
--- what isn't ready before a run, as a way to stop short
+-- the reason why the program ends early, if something isn't ready before a run
 abbrev pub ended_of : Unready → Ended
 ended_of (unready.Setup fault) = Setup fault
 ended_of (unready.Unread path) = Unread path

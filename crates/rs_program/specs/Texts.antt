@@ -1,4 +1,4 @@
--- The line that says why the program stops short (docs/MANUAL.md, "Texts").
+-- The line that says why the program ends early (docs/MANUAL.md, "Texts").
 use Rattle.std.specs.Prelude.{◌<◌, ℕ, ⊤, List, [], ◌++◌, Option, Some, codes, length, option_map, slice_get}
 use Rattle.std.specs.Prelude.{string_bytes, unwrap_or}
 use Rattle.std.specs.Borrow.{Bor}
@@ -44,7 +44,8 @@ run_line (run.Unsettled peer) set_up options =
 run_line run.Report set_up options = named (codes "cannot write standard output")
 run_line (run.Read peer) set_up options = unread_line program (file_path set_up peer)
 
--- the line of each way to stop short; help, the version and the refusal of a command line are texts of `clap`
+-- the line for each reason why the program ends early; help, the version and the refusal of a command line are texts
+-- of `clap`
 abbrev pub line_of : Ended → Option (Bor SetUp) → Option (Bor Options) → Text
 line_of (Words fault) set_up options = words_text program fault
 line_of (Setup fault) set_up options = setup_line program fault
@@ -53,15 +54,15 @@ line_of Memory set_up options = out_of_memory_line
 line_of (Run fault) (Some set_up) (Some options) = run_line fault set_up.now options.now
 line_of (Run fault) set_up options = []
 
--- the client that a run names is one of the plan, so is the peer that is unsettled, and the one of which a
--- read failed has a recorded file
+-- A run names a client of the plan, or an unsettled peer of the plan. If a read failed, the peer that it names has a
+-- recorded file.
 abbrev pub NamesPeer : RunFault → SetUp → Type 0
 NamesPeer (run.Dump client) set_up = client < length set_up.plan.value.peers
 NamesPeer (run.Unsettled peer) set_up = peer < length set_up.plan.value.peers
 NamesPeer (run.Read peer) set_up = peer < length set_up.files.items
 NamesPeer fault set_up = ⊤
 
--- of a run that stopped short, the setup and the options are there
+-- if a run ended early, the setup and the options are there
 abbrev pub CanTell : Ended → Option (Bor SetUp) → Option (Bor Options) → Type 0
 CanTell (Run fault) (Some set_up) (Some options) = NamesPeer fault set_up.now
 CanTell (Run fault) set_up options = ⊥

@@ -14,7 +14,7 @@ use std::fmt::{Display, Formatter};
 pub struct Amount {
     /// How many octets were read.
     pub read: u64,
-    /// How many octets all files have, where that is known.
+    /// How many octets all files have, if that is known.
     pub total: Option<u64>,
 }
 

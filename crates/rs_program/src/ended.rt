@@ -1,4 +1,4 @@
-//! How the program ends where it fails: its status, and its line on standard error.
+//! How the program ends if it fails: its status, and its line on standard error.
 
 ghost use Rattle.std.specs.Prelude.{◌≡◌};
 ghost use Rattle.rs_program.specs.Status.{ended_of, run_status, status_of};
@@ -45,7 +45,7 @@ pub fn run_status(strict: Strictness, clean: bool) -> u8
     }
 }
 
-/// The status with which the program ends where it fails. 0: help or the version was asked for. 1: the command
+/// The status with which the program ends if it fails. 0: help or the version was asked for. 1: the command
 /// line or the configuration is refused. 2: a file, a folder or a device failed. 3: memory was refused. 4: not all
 /// changes of a peer are known to have been applied.
 pub fn status(ended: &Ended) -> u8

@@ -3,7 +3,7 @@
 use rs_host::found_at;
 use std::fs::Files;
 
-/// How many octets the files of these paths have in all; none where that isn't known of one, as of a
+/// How many octets the files of these paths have in all; none if that isn't known of one, as of a
 /// pipe or a device.
 pub fn octets_of<R: Files>(rt: &R, paths: &[String]) -> Option<u64> {
     let mut octets: u64 = 0;

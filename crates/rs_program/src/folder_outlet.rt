@@ -1,8 +1,8 @@
 //! An outlet over a folder: each dump becomes a file in it. It doesn't tell what it has kept, nor what is out.
 //!
-//! Our choice: where nothing or a file stands in the place of a dump, the dump is written beside it, to a part file of
+//! Our choice: if nothing or a file stands in the place of a dump, the dump is written beside it, to a part file of
 //! its own. The part file takes that place once the dump is kept. So a reader finds the older dump there or the new
-//! one, never a part of one, and a dump that isn't kept leaves the older one as it was. Where something else stands
+//! one, never a part of one, and a dump that isn't kept leaves the older one as it was. If something else stands
 //! there, such as a link, a pipe or a device, that is opened itself, in the turn of the dump.
 
 ghost use Rattle.std.specs.Prelude.{◌≡◌, None};
@@ -134,7 +134,7 @@ fn create<R: Files>(
     }
 }
 
-// Makes the part file of a dump, where a part file takes its place.
+// Makes the part file of a dump, if a part file takes its place.
 fn create_ahead<R: Files>(
     rt: &R,
     alloc: Global,

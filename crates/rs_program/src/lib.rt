@@ -6,6 +6,8 @@
 //! it), `files` (how much there is), `progress` (that line on standard error). `counted` (a reader whose octets are
 //! counted), `cleared` (a writer that takes the line away first). `folder_outlet` (dumps), `overwritten` and `tried`
 //! (what is seen beforehand).
+//!
+//! A call that allocates fails if memory is refused.
 #![tactic(auto)]
 
 mod amount;

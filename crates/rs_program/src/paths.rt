@@ -5,7 +5,7 @@ ghost use Rattle.rs_program.specs.Paths.{path_in as the_path};
 
 use std::alloc::{AllocError, Global};
 
-/// The path of a file in a folder: a folder that ends in `/` gets no second one. Fails where memory is refused.
+/// The path of a file in a folder: a folder that ends in `/` gets no second one.
 pub fn path_in(alloc: Global, folder: &str, name: &str) -> Result<String, AllocError>
     ensures { IfOk result (λ path. string_bytes path ≡ the_path folder.now name.now) }
 {

@@ -1,6 +1,6 @@
 //! The line on standard error.
 //!
-//! Our choices: a line that can't be written is left out. Where two threads pass marks at once, the
+//! Our choices: a line that can't be written is left out. If two threads pass marks at once, the
 //! lower one may be shown until the next.
 
 use crate::amount::Amount;
@@ -11,7 +11,7 @@ use std::sync::atomic::{AtomicBool, AtomicU64, Ordering};
 /// takes.
 #[derive(Drop)]
 pub struct Progress<E> {
-    // None where nothing is shown.
+    // None if nothing is shown.
     to: Option<E>,
     total: Option<u64>,
     read: AtomicU64,
@@ -23,8 +23,8 @@ pub struct Progress<E> {
 const WIDTH: usize = 60;
 
 impl<E: Eprint> Progress<E> {
-    /// Begins with no octet read. All files have `total` octets, where that is known. It shows nothing
-    /// yet, and never where there is nothing to show it on.
+    /// Begins with no octet read. All files have `total` octets, if that is known. It shows nothing
+    /// yet, and never if there is nothing to show it on.
     pub fn new(to: Option<E>, total: Option<u64>) -> Progress<E> {
         Progress {
             to,
@@ -34,7 +34,7 @@ impl<E: Eprint> Progress<E> {
         }
     }
 
-    /// Counts octets that were read, from any thread, and shows the line where they pass a mark.
+    /// Counts octets that were read, from any thread, and shows the line if they pass a mark.
     pub fn count(&self, octets: usize) {
         let Some(to) = &self.to else {
             return;
@@ -59,7 +59,7 @@ impl<E: Eprint> Progress<E> {
         }
     }
 
-    // What is told where so many octets were read.
+    // The amount that is shown if so many octets were read.
     fn amount(&self, read: u64) -> Amount {
         Amount {
             read,

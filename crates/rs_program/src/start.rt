@@ -49,7 +49,7 @@ fn fault_on_one_line<R: AllocGlobal + Env>(
     }
 }
 
-/// How much of the files of these paths was read, shown where there is a terminal.
+/// How much of the files of these paths was read, shown if there is a terminal.
 pub fn progress_on<R: Files>(
     rt: &R,
     terminal: Option<Stderr>,

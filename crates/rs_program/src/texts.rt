@@ -19,8 +19,8 @@ pub const PROGRAM: &str = "route_server";
 /// The line that says why the program fails, without a line break at its end. For help, the version and a refused
 /// command line it is the whole text of `clap`.
 ///
-/// Of a run that stopped short, `setup` and `options` are those that it was given. Line breaks in a key or a
-/// path are shown as `\n` and `\r`, other control characters as `\u{1b}`. Fails where memory is refused.
+/// Of a run that stopped short, `setup` and `options` are those that it was given. Line breaks in a key or a path
+/// are shown as `\n` and `\r`, other control characters as `\u{1b}`.
 pub fn line(
     alloc: Global,
     ended: &Ended,
@@ -68,7 +68,7 @@ fn run_line(
     }
 }
 
-/// The path of a client's dump. Fails where memory is refused.
+/// The path of a client's dump.
 pub fn dump_path(
     alloc: Global,
     setup: &Setup,

@@ -1,7 +1,7 @@
 //! Tries the folder of the dumps before the recorded sessions are read, so that nobody waits for a run to
 //! learn of a mistyped path.
 //!
-//! Our choice: a dump that stands there already is not touched before the run. Where one is to be a new file, a file of
+//! Our choice: a dump that stands there already is not touched before the run. If one is to be a new file, a file of
 //! another name is made in the folder and taken away again.
 
 ghost use Rattle.std.specs.Prelude.{◌<◌, None, IfErr, IfOk, IfSome, length};
@@ -37,7 +37,7 @@ pub fn first_unwritable<R: AllocGlobal + Files>(
     }
 }
 
-// The first client whose dump is to be a new file, where the folder takes no files.
+// The first client whose dump is to be a new file, if the folder takes no files.
 fn first_unmade<R: AllocGlobal + Files>(
     rt: &R,
     setup: &Setup,

@@ -13,11 +13,11 @@ pub(crate) enum Takes {
     Value(&'static str),
     // A path that isn't empty, which help names so.
     Path(&'static str),
-    // One of these values, the first one where it isn't given.
+    // One of these values, the first one if it isn't given.
     Choice(&'static str, &'static [&'static str]),
     // One of these values.
     OneOf(&'static str, &'static [&'static str]),
-    // A number from 1 to 16, and 1 where it isn't given.
+    // A number from 1 to 16, and 1 if it isn't given.
     Threads,
     // Paths, as arguments without a name.
     Paths,

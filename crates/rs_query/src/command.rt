@@ -10,7 +10,7 @@ use std::alloc::{AllocError, Global};
 const ABOUT: &str =
     "Answers questions about a route server's tables from recorded BGP sessions, without a router.";
 
-// What is told at the foot of its help.
+// The text at the foot of the help.
 const AFTER_HELP: &str = "Example:
   looking_glass why --config exchange.toml --client b --prefix 192.0.2.0/24
 

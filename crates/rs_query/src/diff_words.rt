@@ -7,7 +7,7 @@ use clap::ArgMatches;
 use rs_host::WordsFault;
 use std::alloc::Global;
 
-// The text where not exactly one of four options is there twice.
+// The text if not exactly one of four options is there twice.
 const NOT_ONE_TWICE: &str =
     "looking_glass: diff takes one of --config, --until, --errors and --losses twice, and the others once\n";
 

@@ -51,7 +51,7 @@ pub enum Destination {
 #[derive(Clone, Copy, Debug, PartialEq, Eq, Drop)]
 pub struct Span {
     /// Up to when records are read, in seconds since 1970: each file ends before the first one that is later. All of
-    /// them where it isn't given.
+    /// them if it isn't given.
     pub until: Option<u32>,
     /// The standard by which faults in path attributes are handled.
     pub errors: Errors,
@@ -85,15 +85,15 @@ pub struct HistoryQuery {
     pub config: String,
     /// The prefix, or an address on it.
     pub prefix: Destination,
-    /// The word that names the client whose table is shown beside, where one is given.
+    /// The word that names the client whose table is shown beside, if one is given.
     pub client: Option<String>,
-    /// From when on changes are shown; all of them where it isn't given.
+    /// From when on changes are shown; all of them if it isn't given.
     pub from: Option<u32>,
     /// Of which records, and by which standard.
     pub span: Span,
     /// Whether the ends of files are shown.
     pub ends: bool,
-    /// The path of the file that takes the picture, where one is asked for.
+    /// The path of the file that takes the picture, if one is asked for.
     pub svg: Option<String>,
     /// Whether all attributes of the routes are shown.
     pub attributes: bool,
@@ -147,9 +147,9 @@ pub struct TableQuery {
     pub tables: TablesQuery,
     /// The word that names the client.
     pub client: String,
-    /// The word that names the sender whose routes are listed; all of them where it isn't given.
+    /// The word that names the sender whose routes are listed; all of them if it isn't given.
     pub from: Option<String>,
-    /// The prefix whose row is listed; all of them where it isn't given.
+    /// The prefix whose row is listed; all of them if it isn't given.
     pub prefix: Option<Prefix>,
     /// Whether the more specific prefixes are listed too.
     pub longer: bool,
@@ -166,9 +166,9 @@ pub struct MissingQuery {
     pub tables: TablesQuery,
     /// The word that names the client.
     pub client: String,
-    /// The word that names the sender whose routes are listed; all of them where it isn't given.
+    /// The word that names the sender whose routes are listed; all of them if it isn't given.
     pub from: Option<String>,
-    /// The answer or the reason for which routes are listed; all of them where it isn't given.
+    /// The answer or the reason for which routes are listed; all of them if it isn't given.
     pub because: Option<AskedReason>,
     /// Whether only routes to prefixes are listed for which the client gets no route at all.
     pub gets_none: bool,
@@ -203,7 +203,7 @@ pub struct DiffQuery {
     pub old: TablesQuery,
     /// The exchange whose tables are the new ones.
     pub new: TablesQuery,
-    /// The word that names the client; all of them where it isn't given.
+    /// The word that names the client; all of them if it isn't given.
     pub client: Option<String>,
     /// Whether the differences are counted, not listed.
     pub count: bool,
@@ -219,7 +219,7 @@ pub struct TablesQuery {
     /// The standard by which faults in path attributes are handled.
     pub errors: Errors,
     /// Up to when records are read, in seconds since 1970: each file ends before the first one that is later. All of
-    /// them where it isn't given.
+    /// them if it isn't given.
     pub until: Option<u32>,
     /// Which losses of a session count.
     pub losses: Losses,

@@ -18,7 +18,7 @@ use rs_mrt::{Bounds, Tail};
 use rs_update::{Errors, Prefix};
 use std::alloc::{AllocError, Global};
 
-// The text where `clap` gives less than it promises.
+// The text if `clap` gives less than it promises.
 const INCOMPLETE: &str = "error: an option has no value\n";
 
 /// Why the words of the command line ask no question.
@@ -30,8 +30,8 @@ pub struct QueryFault {
     pub of_diff: bool,
 }
 
-/// Reads the words of the command line, which begin with the program's own name. Fails with `Help` where they ask for
-/// help or the version, with `Refused` where they ask no question, with `Memory` where memory is refused. Control
+/// Reads the words of the command line, which begin with the program's own name. Fails with `Help` if they ask for
+/// help or the version, with `Refused` if they ask no question, with `Memory` if memory is refused. Control
 /// characters of a word are escaped in the text that tells why.
 pub fn read_query(alloc: Global, words: Vec<String>) -> Result<Query, QueryFault> {
     match query_in(alloc, &words) {
@@ -222,7 +222,7 @@ pub(crate) fn time(
     time_in(alloc, name, matches.get_str(name))
 }
 
-// The time that the value of an option writes, where it has one.
+// The time that the value of an option writes, if it has one.
 pub(crate) fn time_in(
     alloc: Global,
     name: &str,

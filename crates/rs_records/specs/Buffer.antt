@@ -1,9 +1,9 @@
--- The buffer in which records are spelled before they are written. Its memory is taken once, and then it takes no more
--- (our choice).
+-- The buffer in which records are spelled before they are written. Its memory is taken once and for all (our
+-- choice).
 use Rattle.std.specs.Prelude.{◌≡◌, ℕ, ◌+◌, ◌≤◌, List, ◌++◌, length, vec_len, vec_capacity}
 use Rattle.std.specs.Global.{Vec}
 
--- there is room for so many octets more
+-- the buffer has room for so many more octets
 abbrev pub HasRoom : Vec ℕ → ℕ → Type 0
 HasRoom buffer count = vec_len buffer + count ≤ vec_capacity buffer
 

@@ -1,4 +1,4 @@
--- The PEER_INDEX_TABLE record: the peers whose places the records after it name (RFC 6396, section 4.3.1).
+-- The PEER_INDEX_TABLE record: the peers to which the later records refer by their places (RFC 6396, section 4.3.1).
 use Rattle.std.specs.Prelude.{ℕ, List, [], ◌∷◌, ◌++◌, length, slice_get}
 use Rattle.std.specs.Option.{option_map_or}
 use Rattle.std.specs.List.{flat_map}

@@ -1,4 +1,4 @@
--- A RIB entry, without where its attributes lie in memory.
+-- A RIB entry as a value.
 use Rattle.rs_choice.specs.Decision.{SentRoute}
 use Rattle.rs_records.specs.declared.rib.RibEntry.{RibEntry}
 

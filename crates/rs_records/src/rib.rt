@@ -1,7 +1,7 @@
 //! The RIB_IPV4_UNICAST record of one row (RFC 6396, sections 4.3.2 and 4.3.4).
 //!
-//! Our choices: one RIB entry for each record, since a client's table has one route for each prefix; the
-//! Originated Time is when the sending peer announced the route.
+//! Our choices: each record has one RIB entry, since a client's table has one route for each prefix. The Originated
+//! Time is the time at which the sending peer announced the route.
 
 ghost use Rattle.std.specs.Prelude.{◌≡◌, ◌+◌, ◌<◌, ◌≤◌, length};
 ghost use Rattle.rs_mrt.specs.Record.{record_spelling};

@@ -9,15 +9,15 @@ module _ {T : Type 0} where
   abbrev pub has_close : (T → Bool) → List T → Bool
   has_close closes items = list_any closes items
 
-  -- an item may follow those that came before where they are below the limit, and none of them closes the ring
+  -- an item may follow earlier items if these are fewer than the limit, and none of them closes the ring
   abbrev pub MayFollow : (T → Bool) → ℕ → List T → Type 0
   MayFollow closes limit before = (length before < limit) × (has_close closes before ≡ false)
 
-  -- why an item is refused after those that were sent, and it comes back: that the ring is closed counts
-  -- before that it is full
+  -- Why an item is refused after the items that were sent; the item is given back. If the ring is closed and full,
+  -- the refusal says that it is closed.
   abbrev pub refusal : (T → Bool) → List T → T → SendRefused T
   refusal closes sent item = if has_close closes sent then Closed item else Full item
 
--- whether a ring may have so much room
+-- whether a ring may have this capacity
 abbrev pub is_capacity : ℕ → Bool
 is_capacity capacity = nat_le 1 capacity && nat_le capacity 65536

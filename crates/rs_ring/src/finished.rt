@@ -1,4 +1,4 @@
-//! What is left of a sender that will send no more.
+//! The token of a sender that will send no more.
 
 ghost use Rattle.std.specs.Prelude.{◌≡◌};
 ghost use Rattle.rtrb.specs.Ring.{all_sent};

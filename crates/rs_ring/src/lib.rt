@@ -1,5 +1,5 @@
-//! A ring between two threads: one end sends items, the other receives them, numbered and in the order in
-//! which they were sent.
+//! A ring between two threads: one end sends items, the other receives them, numbered and in the order in which they
+//! were sent.
 //!
 //! It stands on `rtrb`: a send is one push and a receipt one pop, under no lock, and no call waits. A closing
 //! item is the last one of a ring.

@@ -16,8 +16,8 @@ pub const MAX_CAPACITY: usize = 65536;
 
 /// The two ends of a new ring, which has room for `capacity` items.
 ///
-/// Fails with `Capacity` where that isn't from 1 to 65,536, which is tested first, and with `Memory` where
-/// memory is refused.
+/// Fails with `Capacity` if `capacity` isn't from 1 to 65,536, which is tested first, and with `Memory` if memory is
+/// refused.
 pub fn ring<T: Closing>(
     alloc: Global,
     capacity: usize,

@@ -67,7 +67,7 @@ impl<T: Closing> Receiver<T> {
 
     /// Receives the oldest item that waits. It takes no memory and doesn't wait.
     ///
-    /// Answers None where no item is there; then nothing changed.
+    /// Answers None if no item is there; then nothing changed.
     pub fn try_receive(&mut self) -> Option<Numbered<T>>
         ensures number { IfSome result (λ given. given.number ≡ length self.old.received) }
         ensures below { IfSome result (λ given. given.number < T.LIMIT) }
@@ -91,9 +91,10 @@ impl<T: Closing> Receiver<T> {
         self.tally.closed
     }
 
-    /// How many items wait, for a thread that holds both ends of the ring.
+    /// How many items wait, for a thread that has both ends of the ring.
     ///
-    /// So many receipts in a row give an item, and as many sends as there is room beside them aren't refused as full.
+    /// So many receipts in a row give an item. After them, as many sends as there is room for aren't refused as
+    /// full.
     pub fn beside(&mut self, sender: &mut Sender<T>) -> usize
         requires { sender.old.ring ≡ self.old.ring }
         ensures waiting { result ≡ length self.new.waiting }

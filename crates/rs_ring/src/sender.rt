@@ -58,8 +58,8 @@ impl<T: Closing> Sender<T> {
 
     /// Sends an item, and answers its number: how many were sent before it. It takes no memory and doesn't wait.
     ///
-    /// Fails with `Closed` where a closing item was sent before, else with `Full` where the ring has no room.
-    /// Then the item comes back, and nothing changed.
+    /// Fails with `Closed` if a closing item was sent before, else with `Full` if the ring has no room. Then the
+    /// item is given back, and nothing changed.
     pub fn try_send(&mut self, item: T) -> Result<u64, SendRefused<T>>
         requires { length self.old.sent < T.LIMIT }
         ensures number { IfOk result (λ number. number ≡ length self.old.sent) }
@@ -106,8 +106,7 @@ impl<T: Closing> Sender<T> {
         self.tally.count
     }
 
-    /// Ends the sending. The token, where there is one, shows the receiver all that was sent: none comes
-    /// where the receiver is gone.
+    /// Ends the sending. If the receiver still exists, the answer is a token that shows it all that was sent.
     pub fn finish(self) -> Option<Finished<T>>
         ensures { IfSome result (λ token. token ≡ record { ring = self.ring; sent = self.sent }) }
     {

@@ -1,4 +1,4 @@
--- One item more for the shards that get it.
+-- One more item is sent to the shards that get it.
 use Rattle.std.specs.Prelude.{◌≡◌, ◌<◌, ◌^◌, ◌++◌, ◌∷◌, [], ℕ, false, List, length, map, slice_get, Some, if◌then◌else◌}
 use Rattle.std.specs.Option.{option_map}
 use Rattle.rs_ring.specs.Ends.{Sending}
@@ -17,17 +17,17 @@ use Rattle.rs_router.specs.declared.routed.Routed.TheVariants as items
 abbrev pub sent_lists : List (Sending Routed) → List (List Routed)
 sent_lists senders = map (λ sender. sender.sent) senders
 
--- they are ends of the same rings
+-- the senders are ends of the same rings
 abbrev pub SameSenders : List (Sending Routed) → List (Sending Routed) → Type 0
 SameSenders before after = map (λ sender. sender.ring) after ≡ map (λ sender. sender.ring) before
 
--- each shard may be sent one item more: it wasn't sent the last one, and its ring is below its limit
+-- each shard may be sent one more item: its last item was not sent yet, and its ring is below its limit
 abbrev pub CanSend : List (Sending Routed) → Type 0
 CanSend senders =
     (shard : ℕ) (sender : Sending Routed) → slice_get senders shard ≡ Some sender
     → (has_close is_last sender.sent ≡ false) × (length sender.sent < 2 ^ 60)
 
--- an item of which each shard gets one
+-- an item that each shard gets, as it is sent to one of them
 abbrev pub item_of : Shared → Routed
 item_of (shared.Down peer time) = items.Word peer (record { time = time; body = Down })
 item_of (shared.Close peer time reason) = items.Word peer (record { time = time; body = Close reason })
@@ -37,12 +37,12 @@ item_of shared.Last = items.Last
 abbrev pub IsSentToAll : Routed → List (List Routed) → List (List Routed) → Type 0
 IsSentToAll item before after = after ≡ map (λ sent. sent ++ item ∷ []) before
 
--- what one shard was sent with a peer's change, where it gets that
+-- the items sent to one shard, and then a peer's change, if the shard gets this change
 abbrev pub with_word : ℕ → ℕ → Word → ℕ → List Routed → List Routed
 with_word shards peer word shard sent =
     if gets shards shard (change_of word) then sent ++ items.Word peer word ∷ [] else sent
 
--- each shard that gets a peer's change was sent it
+-- a peer's change was sent to each shard that gets it
 abbrev pub Delivered : ℕ → Word → List (List Routed) → List (List Routed) → Type 0
 Delivered peer word before after =
     (shard : ℕ) → slice_get after shard

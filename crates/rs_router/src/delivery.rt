@@ -29,7 +29,7 @@ pub(crate) enum Shared {
 }
 
 impl Shared {
-    // It for one shard.
+    // The item as it is sent to one shard.
     fn item(self) -> Routed
         ensures { result ≡ item_of self }
     {

@@ -1,4 +1,4 @@
-//! What a shard is sent.
+//! The items that a shard is sent.
 
 ghost use Rattle.rs_router.specs.RoutedItems.{is_last};
 

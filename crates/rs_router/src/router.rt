@@ -17,11 +17,11 @@ use std::sync::Wait;
 // How many changes of one peer are taken before the next peer's turn.
 const TURN: usize = 64;
 
-/// Routes the changes of all peers, at most 256, to the shards until each peer's session closed: each change
-/// to the shard of its prefix, each loss and close of a session to every shard, and after all of them `Last`
-/// to every shard. The changes of one peer stay in order.
+/// Routes the changes of all peers, at most 256, to the shards until each peer's session closed. Each change goes to
+/// the shard of its prefix. Each loss and close of a session goes to every shard, and after all changes `Last` does.
+/// The changes of one peer stay in order.
 ///
-/// It takes no memory, and holds at most one change that it received and hasn't sent.
+/// It takes no memory, and keeps at most one change that it received and hasn't sent.
 pub fn route<R: Wait>(rt: &R, from: &mut [Receiver<Word>], to: &mut [Sender<Routed>])
     requires shards { IsShardCount (length to.old) }
     requires peers { length from.old ≤ 256 }
@@ -29,7 +29,7 @@ pub fn route<R: Wait>(rt: &R, from: &mut [Receiver<Word>], to: &mut [Sender<Rout
     requires nothing_sent { All (λ sender. sender.sent ≡ []) to.old }
     // Each session closed.
     ensures closed { AreClosed (received_lists from.new) }
-    // Of each peer each shard was sent the part of what was received.
+    // Of the changes received of each peer, each shard was sent its part.
     ensures shard_parts { AreShardParts (received_lists from.new) (sent_lists to.new) }
     ensures known { AreKnown (length from.old) (sent_lists to.new) }
     ensures last { EndLast (sent_lists to.new) }
@@ -113,7 +113,7 @@ fn route_turn<R: Wait>(
     moved
 }
 
-// Routes one change of a peer, where one waits. Answers whether one came.
+// Routes one change of a peer, if one waits. Answers whether one came.
 fn route_one<R: Wait>(
     rt: &R,
     from: &mut [Receiver<Word>],

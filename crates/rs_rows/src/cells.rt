@@ -2,13 +2,13 @@
 
 use std::alloc::AllocError;
 
-/// Adds a cell, filled up with spaces to a width; one space at least stands behind it. Fails where memory is refused.
+/// Adds a cell, filled up with spaces to a width; one space at least stands behind it.
 pub fn add_cell(line: &mut String, cell: &str, width: usize) -> Result<(), AllocError> {
     line.push_str(cell)?;
     add_spaces(line, cell.len(), width)
 }
 
-/// Fills up a cell that begins at this place of a text, in the same way. Fails where memory is refused.
+/// Fills up a cell that begins at this place of a text, in the same way.
 pub fn fill_cell(text: &mut String, start: usize, width: usize) -> Result<(), AllocError> {
     let len = text.len().saturating_sub(start);
     add_spaces(text, len, width)
@@ -44,8 +44,8 @@ const LINE_WIDTH: usize = 80;
 // How far the lines behind the first one are indented at most.
 const MOST_INDENT: usize = 48;
 
-/// Adds words to the line that begins at this place of a text. Where they pass the width of a line, it is broken
-/// between two words; what follows is indented to where the words begin. Fails where memory is refused.
+/// Adds words to the line that begins at this place of a text. If they pass the width of a line, it is broken
+/// between two words; what follows is indented to where the words begin.
 pub fn add_words(text: &mut String, start: usize, words: &str) -> Result<(), AllocError> {
     let indent = text.len().saturating_sub(start).min(MOST_INDENT);
     add_indented_words(text, start, words, indent)
@@ -76,8 +76,7 @@ fn add_indented_words(
     Ok(())
 }
 
-/// Adds a line of words; where it passes the width of a line, what follows is indented by two columns. Fails where
-/// memory is refused.
+/// Adds a line of words; if it passes the width of a line, what follows is indented by two columns.
 pub fn add_sentence(text: &mut String, words: &str) -> Result<(), AllocError> {
     let start = text.len();
     add_indented_words(text, start, words, 2)?;

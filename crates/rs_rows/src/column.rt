@@ -9,7 +9,7 @@ pub enum Align {
     Left,
     /// To the right, with spaces before them and two behind.
     Right,
-    /// Broken between words where a line is too long: for the last column.
+    /// Broken between words if a line is too long: for the last column.
     Broken,
 }
 
@@ -51,7 +51,7 @@ impl Column {
         }
     }
 
-    /// The last column, whose fields text breaks between words where a line is too long.
+    /// The last column, whose fields text breaks between words if a line is too long.
     pub fn broken(key: &'static str, title: &'static str) -> Column {
         Column {
             align: Align::Broken,

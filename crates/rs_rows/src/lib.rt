@@ -4,6 +4,8 @@
 //!
 //! Reading order: `form` (how an answer is printed), `column` (the columns of a list), `row_writer` (what takes the
 //! fields), `sheet` (what is written so far). `cells` (lines of columns and of words).
+//!
+//! A call that allocates fails if memory is refused.
 #![tactic(auto)]
 
 mod cells;

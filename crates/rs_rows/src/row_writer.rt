@@ -194,7 +194,7 @@ impl<'a> RowWriter<'a> {
         self.keep(added);
     }
 
-    /// Takes a line of words between rows, which text alone has and breaks where it is too long.
+    /// Takes a line of words between rows, which text alone has and breaks if it is too long.
     pub fn sentence(&mut self, words: Result<String, AllocError>) {
         let added = match words {
             Ok(words) => self.sheet.add_sentence(&words),
@@ -211,7 +211,7 @@ impl<'a> RowWriter<'a> {
         self.keep(ended);
     }
 
-    /// What was written since the last call, whole rows alone. Fails where memory was refused for any of it.
+    /// What was written since the last call, whole rows alone. Fails if memory was refused for any of it.
     pub fn take(&mut self) -> Result<String, AllocError> {
         let fresh = Sheet::new(self.alloc, self.form());
         let sheet = mem::replace(&mut self.sheet, fresh);
@@ -221,7 +221,7 @@ impl<'a> RowWriter<'a> {
         sheet.into_text(self.alloc)
     }
 
-    /// The object that was written, or the list of objects. Fails where memory was refused for any of it; null where the
+    /// The object that was written, or the list of objects. Fails if memory was refused for any of it; null where the
     /// form is not JSON.
     pub fn into_value(self) -> Result<Value, AllocError> {
         if self.refused {
@@ -240,7 +240,7 @@ impl<'a> RowWriter<'a> {
         self.keep(added);
     }
 
-    // Goes to the column of a key, and answers it; none where the form has no such column from here on.
+    // Goes to the column of a key, and answers it; none if the form has no such column from here on.
     fn find(&mut self, key: &str) -> Option<Column> {
         let form = self.form();
         if form == Form::Json {
@@ -286,7 +286,7 @@ fn list_of(alloc: Global, texts: Vec<String>) -> Result<Value, AllocError> {
     Ok(Value::Array(list))
 }
 
-/// Texts with spaces between them. Fails where memory is refused.
+/// Texts with spaces between them.
 pub fn joined(alloc: Global, texts: &[String]) -> Result<String, AllocError> {
     let mut all = String::new(alloc);
     for text in texts {

@@ -1,5 +1,5 @@
--- What recorded files make of an exchange: the routes that are held, of which the tables of its clients are
--- chosen (RFC 4271, section 9.1).
+-- The tables that recorded files give an exchange: the routes that its peers have left, of which the tables of its
+-- clients are chosen (RFC 4271, section 9.1).
 use Rattle.std.specs.Prelude.{ℕ, List, map}
 use Rattle.rs_choice.specs.Plan.{Plan}
 use Rattle.rs_serve.specs.Identity.{id_of}
@@ -9,15 +9,16 @@ use Rattle.rs_session.specs.Given.{OverGivenFiles, MayFailAt}
 use Rattle.rs_table.specs.Content.{TablesContent}
 use Rattle.rs_update.specs.declared.errors.Errors.{Errors}
 
--- this holds of recorded files that the readers may give, one for each peer, in the order of the peers
+-- The statement is true of some recorded files that the readers may give, one for each peer, in the order of the
+-- peers.
 abbrev pub OverFiles : {R : Type 0} → (R → List ℕ → ReadEnd → Type 0) → Errors → Plan → List R
     → (List (List ℕ) → Type 0) → Type 0
 OverFiles gives errors plan readers Holds = OverGivenFiles gives errors (map id_of plan.peers) readers Holds
 
--- the reader of this peer may fail, and those of the peers before it may give their files
+-- the reader of this peer may fail, and the readers of the peers before it may give their files
 abbrev pub FailsAt : {R : Type 0} → (R → List ℕ → ReadEnd → Type 0) → Errors → Plan → List R → ℕ → Type 0
 FailsAt gives errors plan readers peer = MayFailAt gives errors (map id_of plan.peers) readers peer
 
--- what is held once all files were read, one file for each peer, in the order of the peers
+-- the tables after all files were read, one file for each peer, in the order of the peers
 abbrev pub tables_of_files : Errors → Plan → List (List ℕ) → TablesContent
 tables_of_files errors plan files = tables_of plan (changes_by_peer errors plan files)

@@ -1,4 +1,4 @@
--- What a run keeps and reports. Nothing here is of a standard: all of it is our choice.
+-- What a run keeps and reports. Nothing here is from a standard: all of it is our choice.
 use Rattle.std.specs.Prelude.{◌≡◌, ℕ, ⊤, ◌<◌, ◌⊎◌, List, Option, length}
 use Rattle.rs_choice.specs.Plan.{Plan}
 use Rattle.rs_keep.specs.Kept.{dumps_of, GrowsByBeginning}
@@ -9,11 +9,11 @@ use Rattle.rs_outlet.specs.declared.run_fault.RunFault.TheVariants.{Memory, Unse
 use Rattle.rs_update.specs.declared.errors.Errors.{Errors}
 use Rattle.rs_run.specs.Recorded.{FailsAt, OverFiles, tables_of_files}
 
--- the dumps of what the files leave
+-- the dumps of the tables that the files leave
 abbrev pub dumps_of_files : Errors → Plan → List (List ℕ) → ℕ → List KeptDump
 dumps_of_files errors plan files time = dumps_of (tables_of_files errors plan files) time
 
--- how the reading of sessions stops: memory was refused, a read failed, or a peer is unsettled
+-- why the reading of sessions ends early: memory was refused, a read failed, or a peer is unsettled
 abbrev pub IsReadStop : {R : Type 0} → (R → List ℕ → ReadEnd → Type 0) → Errors → Plan → List R → RunFault → Type 0
 IsReadStop gives errors plan readers Memory = ⊤
 IsReadStop gives errors plan readers (Unsettled peer) = peer < length plan.peers
@@ -21,7 +21,8 @@ IsReadStop gives errors plan readers (Dump client) = ⊥
 IsReadStop gives errors plan readers Report = ⊥
 IsReadStop gives errors plan readers (Read peer) = (peer < length plan.peers) × FailsAt gives errors plan readers peer
 
--- where memory is refused, nothing was kept, or a beginning of the dumps of files that the readers may give
+-- If memory is refused, the outlet kept nothing, or it kept the first of the dumps of files that the readers may
+-- give.
 abbrev pub KeepsBeginning : {R : Type 0} → (R → List ℕ → ReadEnd → Type 0) → Errors → Plan → List R → ℕ
     → Option (List KeptDump) → Option (List KeptDump) → Type 0
 KeepsBeginning gives errors plan readers time kept later =

@@ -1,5 +1,5 @@
--- What a run answers, by its result, and what its outlet has kept and its report has taken then. Nothing here is
--- of a standard: all of it is our choice.
+-- What a run answers, and for each answer, which dumps the outlet has kept and which octets the report has taken.
+-- Nothing here is from a standard: all of it is our choice.
 use Rattle.std.specs.Prelude.{◌≡◌, ◌+◌, ◌<◌, ℕ, Bool, true, false, List, Option, Result, Ok, Err, length, take}
 use Rattle.std.specs.Io.KnownBytes.{Appends}
 use Rattle.rs_choice.specs.Plan.{Plan}
@@ -16,14 +16,18 @@ use Rattle.rs_run.specs.Recorded.{FailsAt, OverFiles, tables_of_files}
 use Rattle.rs_run.specs.Report.{report_of_files}
 use Rattle.rs_run.specs.Run.{KeepsBeginning, dumps_of_files}
 
--- Of the readers, which files each may give; of the outlet, the dumps that it has kept and how many failures it has
--- counted; of the report, the octets that it has taken and how many failed writes it has counted. The outlet and the
--- report stand here twice: as they were before the run, and as they are after it.
+-- A statement about a run uses these values:
+-- - For each reader: which files it may give.
+-- - For the outlet: the dumps that it has kept, and how many failures it has counted.
+-- - For the report: the octets that it has taken, and how many failed writes it has counted.
+--
+-- The outlet and the report stand here twice: as they were before the run, and as they are after it.
 module _ {R O W : Type 0} (gives : R → List ℕ → ReadEnd → Type 0)
     (kept : O → Option (List KeptDump)) (refusals : O → ℕ) (taken : W → Option (List ℕ)) (failures : W → ℕ)
     (errors : Errors) (plan : Plan) (time : ℕ) (readers : List R)
     (outlet later_outlet : O) (report later_report : W) where
-  -- Done: of files that the readers may give, all dumps are kept, and the report is out. Nothing failed.
+  -- Done: there are files that the readers may give, all dumps of these files are kept, and their report is written.
+  -- Nothing failed.
   pub record Done : Type 0 where
     pub over_files : OverFiles gives errors plan readers (λ files.
         Grows (kept outlet) (kept later_outlet) (dumps_of_files errors plan files time)
@@ -31,15 +35,16 @@ module _ {R O W : Type 0} (gives : R → List ℕ → ReadEnd → Type 0)
     pub no_failure : refusals later_outlet ≡ refusals outlet
     pub no_failed_write : failures later_report ≡ failures report
 
-  -- Memory was refused: a beginning of the dumps is kept, no failure of the outlet is counted, and nothing of the
-  -- report is out.
+  -- Memory was refused: only the first dumps, or none, are kept. No failure of the outlet is counted, and nothing of
+  -- the report is written.
   pub record MemoryRefused : Type 0 where
     pub keeps_beginning : KeepsBeginning gives errors plan readers time (kept outlet) (kept later_outlet)
     pub no_failure : refusals later_outlet ≡ refusals outlet
     pub reports_nothing : later_report ≡ report
 
-  -- The dump of a client isn't kept: of files that the readers may give, those of the clients before it are. The
-  -- outlet failed, or the client's table has too many rows. Nothing of the report is out.
+  -- The dump of a client isn't kept: there are files that the readers may give, of which the dumps of the clients
+  -- before it are kept. The outlet failed, or the client's table has too many rows. Nothing of the report is
+  -- written.
   pub record DumpRefused (client : ℕ) : Type 0 where
     pub known : client < length plan.peers
     pub over_files : OverFiles gives errors plan readers (λ files.
@@ -48,8 +53,8 @@ module _ {R O W : Type 0} (gives : R → List ℕ → ReadEnd → Type 0)
         (length (table_of (tables_of_files errors plan files) client)))
     pub reports_nothing : later_report ≡ report
 
-  -- A write of the report failed: of files that the readers may give, all dumps are kept, and a beginning of the
-  -- report is out.
+  -- A write of the report failed: there are files that the readers may give, of which all dumps are kept. A
+  -- beginning of the report is written.
   pub record ReportFailed : Type 0 where
     pub over_files : OverFiles gives errors plan readers (λ files.
         Grows (kept outlet) (kept later_outlet) (dumps_of_files errors plan files time)
@@ -57,21 +62,21 @@ module _ {R O W : Type 0} (gives : R → List ℕ → ReadEnd → Type 0)
     pub no_failure : refusals later_outlet ≡ refusals outlet
     pub failed_write : failures later_report ≡ failures report + 1
 
-  -- A read of a peer's file failed: the reader of that peer may fail while the session is open, and each before it
-  -- may give its peer's file. Nothing is kept, and nothing of the report is out.
+  -- A read of a peer's file failed. The reader of that peer may fail while the session is open, and each reader
+  -- before it may give its peer's file. No dump is kept, and nothing of the report is written.
   pub record ReadFailed (peer : ℕ) : Type 0 where
     pub known : peer < length plan.peers
     pub fails : FailsAt gives errors plan readers peer
     pub keeps_nothing : later_outlet ≡ outlet
     pub reports_nothing : later_report ≡ report
 
-  -- A peer is unsettled: nothing is kept, and nothing of the report is out.
+  -- A peer is unsettled: no dump is kept, and nothing of the report is written.
   pub record PeerUnsettled (peer : ℕ) : Type 0 where
     pub known : peer < length plan.peers
     pub keeps_nothing : later_outlet ≡ outlet
     pub reports_nothing : later_report ≡ report
 
-  -- what a run answers
+  -- the meaning of each answer of a run
   abbrev pub RunAnswer : {A : Type 0} → Result A RunFault → Type 0
   RunAnswer (Ok done) = Done
   RunAnswer (Err Memory) = MemoryRefused
@@ -80,17 +85,17 @@ module _ {R O W : Type 0} (gives : R → List ℕ → ReadEnd → Type 0)
   RunAnswer (Err (Read peer)) = ReadFailed peer
   RunAnswer (Err (Unsettled peer)) = PeerUnsettled peer
 
-  -- Dumps and report are not wanted: nothing is kept, nothing of the report is out, and nothing failed.
+  -- Dumps and report are not wanted: no dump is kept, nothing of the report is written, and nothing failed.
   pub record Declined : Type 0 where
     pub keeps_nothing : later_outlet ≡ outlet
     pub reports_nothing : later_report ≡ report
 
-  -- what a run has done, by whether it has written
+  -- the meaning of a run without fault, by whether it has written its dumps and report
   abbrev pub DoneIf : Bool → Type 0
   DoneIf true = Done
   DoneIf false = Declined
 
-  -- what a run answers that asks first whether its dumps and its report are wanted
+  -- the meaning of each answer of a run that first asks whether its dumps and its report are wanted
   abbrev pub RunIfAnswer : Result Ran RunFault → Type 0
   RunIfAnswer (Ok ran) = DoneIf ran.is_written
   RunIfAnswer (Err fault) = RunAnswer {A = Ran} (Err fault)

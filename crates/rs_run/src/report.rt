@@ -28,7 +28,8 @@ impl Display for ReasonText {
     }
 }
 
-/// Adds a line for each peer, in the order of the plan: how its session ended. Refused memory, some of them are added.
+/// Adds a line for each peer, in the order of the plan: how its session ended. If memory is refused, some of the
+/// lines may have been added.
 pub fn add_peer_lines(
     report: &mut String,
     plan: &Exchange,

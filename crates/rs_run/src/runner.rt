@@ -36,24 +36,26 @@ const LINES_LEN: usize = 256;
 /// table in `outlet`, under the client's name with `.mrt`. Writes the report to `report`: a line for each peer's
 /// session, and then one for each client's table. Dumps and lines are in the order of the plan.
 ///
-/// `readers` gives the recorded file of each peer, in the order of the peers. Where a record of a file closes the
-/// session, no more is read than up to a little behind that record.
+/// `readers` gives the recorded file of each peer, in the order of the peers. If a record of a file closes the
+/// session, little more than that record is read.
 ///
-/// `Read` names the first peer whose file can't be read to its end or has 2^50 octets or more. That is no fault where a
-/// record closes the session before. Nothing is kept, and nothing of the report is out.
+/// `Read` names the first peer whose file can't be read to its end or has 2^50 octets or more. It is not answered if
+/// a record closes the session before. No dump is kept, and nothing of the report is written.
 ///
-/// `Unsettled` names the first peer of which not all changes are known to have been applied. Nothing is kept, and
-/// nothing of the report is out.
+/// `Unsettled` names the first peer of which not all changes are known to have been applied. No dump is kept, and
+/// nothing of the report is written.
 ///
-/// `Dump` comes where the outlet failed, or the writer of a dump. It also comes where a table has more than
+/// `Dump` is answered if the outlet failed, or the writer of a dump. It is also answered if a table has more than
 /// 4,294,967,295 rows. The dumps of the clients before that one are kept.
 ///
-/// `Report` comes where a write of the report failed. All dumps are kept, and a beginning of the report is out.
+/// `Report` is answered if a write of the report failed. All dumps are kept, and a beginning of the report is
+/// written.
 ///
-/// `Memory` comes where memory was refused. A beginning of the dumps is kept, and nothing of the report is out.
+/// `Memory` is answered if memory was refused. The first dumps, or none, are kept, and nothing of the report is
+/// written.
 ///
-/// Whatever comes, each writer that the outlet gave is back. Once all dumps are kept, a thread frees the tables. That
-/// thread may outlast the call; all others end before it.
+/// After every answer, each writer that the outlet gave is back. Once all dumps are kept, a thread frees the tables.
+/// That thread may outlast the call; all others end before it.
 pub fn run<T: Threads + Wait + Sync, O: Outlet, W: Write, R: Read + Send + Drop>(
     rt: &T,
     alloc: Global,
@@ -94,12 +96,13 @@ pub fn run<T: Threads + Wait + Sync, O: Outlet, W: Write, R: Read + Send + Drop>
 pub struct Ran {
     /// How the session of each peer ended, in the order of the plan.
     pub ends: Vec<PeerEnd>,
-    /// Whether all dumps are kept and the report is out. If not, none is kept, and nothing of the report is out.
+    /// Whether all dumps are kept and the report is written. If not, no dump is kept, and nothing of the report is
+    /// written.
     pub is_written: bool,
 }
 
-/// The same run, which asks `is_wanted` before its first dump: by how the session of each peer ended, in the order of
-/// the plan. If dumps and report are not wanted, nothing is kept, and nothing of the report is out.
+/// A run that asks `is_wanted` before its first dump: by how the session of each peer ended, in the order of the
+/// plan. If dumps and report are not wanted, no dump is kept, and nothing of the report is written.
 pub fn run_if<
     T: Threads + Wait + Sync,
     O: Outlet,
@@ -165,8 +168,8 @@ fn ends_of(alloc: Global, plan: &Exchange, served: &Served) -> Result<Vec<PeerEn
     Ok(ends)
 }
 
-// Frees tables on a thread that nobody waits for, since this takes a second where they are big, and the caller
-// may be about to end. Where no thread can be made they are freed at once.
+// Frees tables on a thread for which nobody waits. Freeing big tables takes a second, and the caller may be about to
+// end. If no thread can be made, they are freed at once.
 fn free_apart<T: Threads>(rt: &T, served: Served) {
     let free = move || -> () {
         let _served = served;
@@ -207,8 +210,8 @@ fn serve_files<T: Threads + Wait + Sync, R: Read + Send + Drop>(
     }
 }
 
-// Why a run fails whose sessions can't be read, by what is refused: the capacity of the rings and the number of shards
-// are not.
+// Why a run fails whose sessions can't be read. The capacity of the rings and the number of shards are never the
+// reason.
 fn read_fault(refused: FloorRefused) -> RunFault
     requires { IsReadRefusal refused }
     ensures { IsFaultOf refused result }

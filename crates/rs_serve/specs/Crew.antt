@@ -9,7 +9,7 @@ use Rattle.rs_serve.specs.declared.shard_crew.ShardJob.{ShardJob}
 use Rattle.rs_serve.specs.declared.shard_crew.ShardOf.{ShardOf}
 use Rattle.rs_serve.specs.declared.shard.ShardEnd.{ShardEnd}
 
--- what a shard is charged with: tables, and the ring through which it receives
+-- the work of a shard: its tables, and the ring through which it receives
 pub record Charge : Type 0 where
   pub tables : TablesContent
   pub ring : Ring
@@ -20,17 +20,17 @@ charge_of job = record { tables = job.tables; ring = job.from.ring }
 abbrev pub charged : ShardOf → Charge
 charged promise = record { tables = promise.tables.value; ring = promise.from.value.ring }
 
--- nothing was received yet, and no peer has a route or is closed
+-- the shard has received nothing, and in its tables no peer has a route or is closed
 abbrev pub IsReady : ShardJob → Type 0
 IsReady job = (job.from.received ≡ []) × ((peer : ℕ) → rib_of job.tables peer ≡ nothing_held)
 
--- a shard received all items up to the last one; where it has tables, these hold what it received
+-- a shard received all items up to the last one; if it still has tables, they are what these items leave
 pub record HasEnded (charge : Charge) (end : ShardEnd) : Type 0 where
   pub tables : IfSome end.tables (HoldReceived charge.tables end.from.received)
   pub ended : EndsLast end.from.received
   pub ring : end.from.ring ≡ charge.ring
 
--- there is a part of each shard, which holds what was sent to the shard
+-- there is a part for each shard, which is what the items sent to the shard leave
 pub record AllHold (charges : List Charge) (sent : List (List Routed)) (parts : List TablesContent) : Type 0 where
   pub count : length parts ≡ length charges
   pub each : (shard : ℕ) (charge : Charge) (items : List Routed) (part : TablesContent)

@@ -1,4 +1,4 @@
--- What the tables of all shards come to.
+-- What the tables of all shards are together.
 use Rattle.std.specs.Prelude.{◌≡◌, ℕ, List, Some, AllPairs, length, map, slice_get}
 use Rattle.rs_choice.specs.Plan.{Plan}
 use Rattle.rs_session.specs.Change.{change_of}
@@ -10,27 +10,28 @@ use Rattle.rs_router.specs.Routing.{AreClosed, AreShardParts}
 use Rattle.rs_router.specs.declared.routed.Routed.{Routed}
 use Rattle.rs_serve.specs.Crew.{AllHold, Charge}
 
--- tables of a plan, of as many peers
+-- tables of a plan, with as many peers as the plan has
 pub record IsOfPlan (plan : Plan) (tables : TablesContent) : Type 0 where
   pub plan_is : tables.plan ≡ plan
   pub count : length tables.ribs ≡ length plan.peers
 
--- the tables of one of some shards, where this was received of each peer: they hold what the shard's part of that
--- leaves
+-- The tables of one shard, of so many shards, if these changes were received of each peer. They have what the
+-- shard's part of the changes leaves.
 pub record IsShardOf (plan : Plan) (received : List (List Word)) (shards shard : ℕ)
     (part : TablesContent) : Type 0 where
   pub of_plan : IsOfPlan plan part
   pub ribs : (peer : ℕ) (words : List Word) → slice_get received peer ≡ Some words
       → rib_of part peer ≡ rib_left (shard_part shards shard (map change_of words))
 
--- the tables of all shards
+-- the tables of all shards, if these changes were received of each peer
 pub record AreShardsOf (plan : Plan) (received : List (List Word)) (parts : List TablesContent) : Type 0 where
   pub counted : IsShardCount (length parts)
   pub peers : length received ≡ length plan.peers
   pub each : (shard : ℕ) (part : TablesContent) → slice_get parts shard ≡ Some part
       → IsShardOf plan received (length parts) shard part
 
--- as many shards as were routed to, which were charged with tables of the plan, hold what they were sent
+-- All shards were sent their parts of the changes received, and have taken them into empty tables of the plan. There
+-- are as many shards as parts.
 pub record IsRun (plan : Plan) (received : List (List Word)) (sent : List (List Routed)) (charges : List Charge)
     (parts : List TablesContent) : Type 0 where
   pub counted : IsShardCount (length sent)
@@ -41,15 +42,14 @@ pub record IsRun (plan : Plan) (received : List (List Word)) (sent : List (List 
   pub shard_parts : AreShardParts received sent
   pub hold : AllHold charges sent parts
 
--- shards that hold what they were sent have the tables of all shards
+-- if shards have taken all that was sent to them, their tables together are those of all shards
 abbrev pub RunShardsAreWhole : Type 0
 RunShardsAreWhole =
     (plan : Plan) (received : List (List Word)) (sent : List (List Routed)) (charges : List Charge)
     (parts : List TablesContent) → IsRun plan received sent charges parts
     → AreShardsOf plan received parts
 
--- and these are parts that can be made one: the tables in which each peer has left what all that was received
--- of it leaves
+-- The tables of all shards can be merged. In the merged tables each peer has what all changes received of it leave.
 abbrev pub ShardsMerge : Type 0
 ShardsMerge =
     (plan : Plan) (received : List (List Word)) (parts : List TablesContent) → AreShardsOf plan received parts

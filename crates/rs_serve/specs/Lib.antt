@@ -1,4 +1,4 @@
--- What shards hold:
+-- The tables of shards:
 pub mod PartLaws  -- what a part of the changes leaves
 pub mod Held  -- one shard
 pub mod Crew  -- all of them
@@ -6,7 +6,7 @@ pub mod Laws  -- what their tables come to
 -- Before the threads:
 pub mod Identity  -- who a peer is
 pub mod Lines  -- rings that are made
--- What a run comes to:
+-- How a run ends:
 pub mod Outcome  -- how it ended
 pub mod Run  -- what it leaves
 pub mod Served  -- what its tables and sessions are

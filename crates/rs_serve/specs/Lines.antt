@@ -1,4 +1,4 @@
--- Rings before a run on threads.
+-- Rings before a run on threads begins.
 use Rattle.std.specs.Prelude.{◌≡◌, ◌≤◌, ◌^◌, ◌++◌, ◌∷◌, ℕ, [], List, All, map, length}
 use Rattle.rs_choice.specs.Plan.{Peer, Plan}
 use Rattle.rs_mrt.specs.Reader.{ReadEnd}
@@ -14,13 +14,14 @@ use Rattle.rs_serve.specs.declared.shard_crew.ShardJob.{ShardJob}
 use Rattle.rs_worker.specs.declared.crew.Job.{Job}
 use Rattle.rs_serve.specs.Identity.{id_of}
 
--- ---- of the peers
+-- ---- the rings between peers and router
 
--- a worker can do its job: nothing was sent through its ring, and its source has no more octets than a session reads
+-- a worker can begin: nothing was sent through its ring, and its source has no more octets than a session reads
 abbrev pub IsReadyJob : {R : Type 0} → Job (RecordReading R) → Type 0
 IsReadyJob job = (job.out.sent ≡ []) × (room_left job.source ≤ 2 ^ 50)
 
--- a worker's job is to read a reader for a peer, and to send through a ring of which the receiving end is here
+-- The work of a worker is to read one reader for a peer, and to send the changes through a ring. The receiving end
+-- of the ring is here.
 pub record IsLine {R : Type 0} (gives : R → List ℕ → ReadEnd → Type 0) (peer : Peer) (reader : R)
     (job : Job (RecordReading R)) (receiver : Receiving Word) : Type 0 where
   pub source : job.source ≡ unread reader
@@ -30,7 +31,7 @@ pub record IsLine {R : Type 0} (gives : R → List ℕ → ReadEnd → Type 0) (
   pub ready : IsReadyJob job
   pub unreceived : receiver.received ≡ []
 
--- one line more was opened
+-- one more line was opened
 pub record HasLineMore {R : Type 0} (gives : R → List ℕ → ReadEnd → Type 0) (peer : Peer) (reader : R)
     (jobs_before : List (Job (RecordReading R))) (receivers_before : List (Receiving Word))
     (jobs : List (Job (RecordReading R))) (receivers : List (Receiving Word)) : Type 0 where
@@ -40,13 +41,13 @@ pub record HasLineMore {R : Type 0} (gives : R → List ℕ → ReadEnd → Type
   pub receivers_are : receivers ≡ receivers_before ++ receiver ∷ []
   pub line : IsLine gives peer reader job receiver
 
--- all workers can do their jobs: each ring has its receiving end here, through which nothing was received
+-- all workers can begin: the receiving end of each ring is here, and nothing was received through it
 pub record CanWork {R : Type 0} (jobs : List (Job (RecordReading R))) (receivers : List (Receiving Word)) : Type 0 where
   pub rings : map (λ job. job.out.ring) jobs ≡ map (λ receiver. receiver.ring) receivers
   pub ready : All IsReadyJob jobs
   pub unreceived : All (λ receiver. receiver.received ≡ []) receivers
 
--- and each job is the one of a peer
+-- each worker's job is that of one peer of the plan
 pub record AreLines {R : Type 0} (gives : R → List ℕ → ReadEnd → Type 0) (plan : Plan) (readers : List R)
     (jobs : List (Job (RecordReading R))) (receivers : List (Receiving Word)) : Type 0 where
   pub sources : map (λ job. job.source) jobs ≡ map unread readers
@@ -54,17 +55,17 @@ pub record AreLines {R : Type 0} (gives : R → List ℕ → ReadEnd → Type 0)
   pub peers : map (λ job. job.id) jobs ≡ map id_of plan.peers
   pub can : CanWork jobs receivers
 
--- ---- of the shards
+-- ---- the rings between router and shards
 
--- a shard's job is to receive through a ring of which the sending end is here, into tables of the plan of
--- which no peer has a route yet
+-- The work of a shard is to receive through a ring, into tables of the plan without any route. The sending end of
+-- the ring is here.
 pub record IsRing (plan : Plan) (job : ShardJob) (sender : Sending Routed) : Type 0 where
   pub tables : IsOfPlan plan job.tables
   pub ring : job.from.ring ≡ sender.ring
   pub unsent : sender.sent ≡ []
   pub ready : IsReady job
 
--- one ring more was opened
+-- one more ring was opened
 pub record HasRingMore (plan : Plan) (jobs_before : List ShardJob) (senders_before : List (Sending Routed))
     (jobs : List ShardJob) (senders : List (Sending Routed)) : Type 0 where
   pub job : ShardJob
@@ -73,14 +74,14 @@ pub record HasRingMore (plan : Plan) (jobs_before : List ShardJob) (senders_befo
   pub senders_are : senders ≡ senders_before ++ sender ∷ []
   pub ring : IsRing plan job sender
 
--- all shards can do their jobs: each ring has its sending end here, through which nothing was sent
+-- all shards can begin: the sending end of each ring is here, and nothing was sent through it
 pub record CanShare (jobs : List ShardJob) (senders : List (Sending Routed)) : Type 0 where
   pub counted : IsShardCount (length jobs)
   pub rings : map (λ job. job.from.ring) jobs ≡ map (λ sender. sender.ring) senders
   pub unsent : All (λ sender. sender.sent ≡ []) senders
   pub ready : All IsReady jobs
 
--- and each begins with tables of the plan
+-- each shard begins with tables of the plan
 pub record AreRings (plan : Plan) (jobs : List ShardJob) (senders : List (Sending Routed)) : Type 0 where
   pub tables : All (λ job. IsOfPlan plan job.tables) jobs
   pub can : CanShare jobs senders

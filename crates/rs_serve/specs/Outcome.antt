@@ -1,14 +1,15 @@
--- How a run of which all threads were joined ended.
+-- How a run ended, once all its threads were joined.
 use Rattle.std.specs.Prelude.{◌≡◌, ◌<◌, ℕ, Bool, true, false, List, All, Result, Ok, Err, Some, slice_get}
 use Rattle.rs_serve.specs.declared.fault.FloorRefused.{FloorRefused}
 use Rattle.rs_serve.specs.declared.fault.FloorRefused.TheVariants.{Memory, Unsettled, Capacity, Read, Shards}
 
--- the least place of a list that has the value: each one before it has the other
+-- the first place in a list that has this value; each place before it has the other value
 pub record IsLeastPlace (value other : Bool) (values : List Bool) (place : ℕ) : Type 0 where
   pub has : slice_get values place ≡ Some value
   pub least : (before : ℕ) → before < place → slice_get values before ≡ Some other
 
--- the verdict on a run: want of memory goes before a failed read, and this before a peer that is unsettled
+-- The outcome of a run: first of all that memory was refused, then that a read failed, then that a peer is
+-- unsettled.
 abbrev pub IsVerdict : Bool → List Bool → List Bool → Result (Unit {0}) FloorRefused → Type 0
 IsVerdict memory failed settled (Err Memory) = memory ≡ true
 IsVerdict memory failed settled (Err (Read peer)) = (memory ≡ false) × IsLeastPlace true false failed peer

@@ -7,8 +7,8 @@ use Rattle.rs_session.specs.Change.{Change, is_close}
 use Rattle.rs_table.specs.Left.{left, is_loss}
 use Rattle.rs_router.specs.ShardParts.{IsShardCount, shard_part, shard_of}
 
--- what a list leaves is, over the shards, what its parts leave, each on the prefixes of its shard; each part
--- has a loss and a close where the list has one
+-- On a prefix, the part of the prefix's own shard leaves the same route as the whole list, and other parts leave
+-- none. Each part has a loss or a close exactly if the list has one.
 pub record IsPartsByShards (shards : ℕ) (changes : List Change) : Type 0 where
   pub own : (prefix : IpPrefix)
       → get (left (shard_part shards (shard_of prefix shards) changes)) prefix ≡ get (left changes) prefix

@@ -1,4 +1,4 @@
--- What a run on threads leaves once all of them were joined.
+-- What a run on threads leaves, once all its threads were joined.
 use Rattle.std.specs.Prelude.{◌≡◌, ◌<◌, ⊤, ℕ, Bool, true, false, List, All, AllPairs, map, length}
 use Rattle.rs_mrt.specs.Reader.{ReadEnd}
 use Rattle.rs_mrt.specs.RecordReading.{RecordReading, MayCome}
@@ -20,9 +20,9 @@ use Rattle.rs_serve.specs.declared.ended.PeerEnd.{PeerEnd}
 use Rattle.rs_serve.specs.declared.fault.FloorRefused.{FloorRefused}
 use Rattle.rs_serve.specs.declared.fault.FloorRefused.TheVariants.{Memory, Unsettled, Capacity, Read, Shards}
 
--- What all receivers and shards took: each peer's changes up to its close, those of a settled worker being
--- all that it sent; each shard its part of them, which its tables hold, unless a shard was refused memory or
--- left an item waiting.
+-- The changes that receivers and shards took. Of each peer they are its changes up to the close; a settled worker
+-- sent no others. Each shard has its part of the changes in its tables, unless it was refused memory or left an item
+-- waiting.
 pub record HasRun {R : Type 0} (gives : R → List ℕ → ReadEnd → Type 0) (workers : List (Charge (RecordReading R)))
     (of_shards : List shards.Charge)
     (ends : List Joined) (parts : List TablesContent) (whole : Bool) : Type 0 where
@@ -36,21 +36,21 @@ pub record HasRun {R : Type 0} (gives : R → List ℕ → ReadEnd → Type 0) (
   pub known : AllJoined (MayCome gives) (λ reading. reading.shown) workers receivers ends
   pub held : whole ≡ true → AllHold of_shards sent parts
 
--- the parts can be made one, over a plan of so many peers
+-- the parts can be merged, and have a plan of so many peers
 pub record CanMerge (peers : ℕ) (parts : List TablesContent) : Type 0 where
   pub some : 0 < length parts
   pub parts_are : AllPairs AreParts parts
   pub counted : All (λ part. length part.plan.peers ≡ peers) parts
 
--- a peer's worker settled, and was neither refused memory nor did a read fail
+-- a peer's worker settled, was not refused memory, and had no failed read
 abbrev pub IsWell : Joined → Type 0
 IsWell end = (end.settled ≡ true) × (is_memory end.reason ≡ false) × (is_read end.reason ≡ false)
 
--- how a peer's session ended, of what is known of its worker
+-- how a peer's session ended, by what its worker answered
 abbrev pub end_of : Joined → PeerEnd
 end_of end = record { changes = end.changes; passed = end.passed; reason = end.reason }
 
--- all is well, and the parts are made one
+-- all workers are well, and the parts are merged
 pub record IsAnswer (ends : List Joined) (parts : List TablesContent) (whole : Bool)
     (served : ServedContent) : Type 0 where
   pub whole_is : whole ≡ true
@@ -59,22 +59,22 @@ pub record IsAnswer (ends : List Joined) (parts : List TablesContent) (whole : B
   pub merged : IsMerged parts served.tables
   pub one_for_each : length served.tables.ribs ≡ length served.tables.plan.peers
 
--- a read of this peer's file failed and none of the peers before it; no worker was refused memory, and the
--- tables of all shards are there
+-- A read of this peer's file failed, and no read of a peer before it. No worker was refused memory, and the tables
+-- of all shards are there.
 pub record IsFirstRead (ends : List Joined) (whole : Bool) (peer : ℕ) : Type 0 where
   pub whole_is : whole ≡ true
   pub remember : All (λ end. is_memory end.reason ≡ false) ends
   pub least : IsLeastPlace true false (map (λ end. is_read end.reason) ends) peer
 
--- this peer's worker isn't settled and those of the peers before it are; no worker was refused memory, the
--- tables of all shards are there, and no read failed
+-- This peer's worker isn't settled, and those of the peers before it are. No worker was refused memory, the tables
+-- of all shards are there, and no read failed.
 pub record IsFirstUnsettled (ends : List Joined) (whole : Bool) (peer : ℕ) : Type 0 where
   pub whole_is : whole ≡ true
   pub remember : All (λ end. is_memory end.reason ≡ false) ends
   pub read : All (λ end. is_read end.reason ≡ false) ends
   pub least : IsLeastPlace false true (map (λ end. end.settled) ends) peer
 
--- why all isn't well
+-- why a run is refused after its threads were joined
 abbrev pub IsRefusal : List Joined → Bool → FloorRefused → Type 0
 IsRefusal ends whole Memory = ⊤
 IsRefusal ends whole (Read peer) = IsFirstRead ends whole peer

@@ -1,4 +1,4 @@
--- What a run on threads answers, by its result. Nothing here is of a standard: all of it is our choice.
+-- The meaning of each answer of a run on threads. Nothing here is from a standard: all of it is our choice.
 use Rattle.std.specs.Prelude.{◌≡◌, ◌<◌, ℕ, true, false, List, Result, Ok, Err, length, map}
 use Rattle.rs_choice.specs.Plan.{Plan}
 use Rattle.rs_mrt.specs.Reader.{ReadEnd}
@@ -14,12 +14,12 @@ use Rattle.rs_serve.specs.declared.fault.FloorRefused.TheVariants.{Memory, Unset
 abbrev pub WithinLimits : ℕ → ℕ → Type 0
 WithinLimits capacity shards = (is_capacity capacity ≡ true) × (is_shard_count shards ≡ true)
 
--- the reader of this peer may fail, and those of the peers before it may give files
+-- the reader of this peer may fail, and the readers of the peers before it may give files
 abbrev pub ReadFailed : {R : Type 0} → (R → List ℕ → ReadEnd → Type 0) → Errors → Plan → List R → ℕ → Type 0
 ReadFailed gives errors plan readers peer =
     (peer < length plan.peers) × MayFailAt gives errors (map id_of plan.peers) readers peer
 
--- what a run answers: the capacity is tested first, then the number of shards
+-- the answers of a run on threads; the capacity of the rings is tested first, then the number of shards
 abbrev pub ServeAnswer : {R : Type 0} → (R → List ℕ → ReadEnd → Type 0) → Errors → Plan → List R → ℕ → ℕ
     → Result ServedContent FloorRefused → Type 0
 ServeAnswer gives errors plan readers capacity shards (Ok served) =

@@ -1,4 +1,4 @@
--- The end of a run on threads.
+-- The result of a run on threads.
 use Rattle.std.specs.Prelude.{◌≡◌, ◌&&◌, ℕ, Bool, nat_le, List, [], ◌∷◌, ◌++◌, map, length, slice_get, Some, refl}
 use Rattle.std.specs.Coded.{Coded, code_by, coded×, coded_ℕ, coded_list}
 use Rattle.std.specs.List.{zip}
@@ -32,16 +32,16 @@ served_code =
     code_by (TablesContent × List PeerEnd) (coded× tables_code (coded_list end_code)) (λ s. (s.tables, s.ends))
     (λ p. record { tables = p.0; ends = p.1 }) (λ _. refl)
 
--- the tables of a plan of whose peers this is recorded, whatever the order
+-- the tables of a plan, by the changes of each peer; the order in which changes of different peers came makes no
+-- difference
 abbrev pub tables_of : Plan → List (List Change) → TablesContent
 tables_of plan recorded = record { plan = plan; ribs = map rib_left recorded }
 
--- the changes in each peer's file, in the order of the peers, faults in messages being handled by one of the
--- standards
+-- the changes in each peer's file, in the order of the peers; faults in messages are handled by one of the standards
 abbrev pub changes_by_peer : Errors → Plan → List (List ℕ) → List (List Change)
 changes_by_peer errors plan files = map (λ (peer, file). changes_in_by errors (id_of peer) file) (zip plan.peers files)
 
--- how the session in a file ends: its last change is the close
+-- how the session in a file ends: by its last change, which is the close
 pub record IsEndOf (errors : Errors) (peer : PeerId) (file : List ℕ) (end : PeerEnd) : Type 0 where
   pub before : List Change
   pub time : ℕ
@@ -49,7 +49,7 @@ pub record IsEndOf (errors : Errors) (peer : PeerId) (file : List ℕ) (end : Pe
   pub passed_are : end.passed ≡ passed_in_by errors peer file
   pub closes : changes_in_by errors peer file ≡ before ++ close_at time end.reason ∷ []
 
--- the tables are those of the files alone, and each peer's session ended as it does in its file
+-- the tables depend on the files alone, and each peer's session ended as it does in its file
 pub record IsServed (errors : Errors) (plan : Plan) (files : List (List ℕ)) (served : ServedContent) : Type 0 where
   pub tables_are : served.tables ≡ tables_of plan (changes_by_peer errors plan files)
   pub counted : length served.ends ≡ length plan.peers
@@ -58,11 +58,11 @@ pub record IsServed (errors : Errors) (plan : Plan) (files : List (List ℕ)) (s
       → slice_get served.ends place ≡ Some end
       → IsEndOf errors (id_of peer) file end
 
--- it is so of files that the readers may give
+-- there are files that the readers may give, and the result is that of these files
 abbrev pub IsServedBy : {R : Type 0} → (R → List ℕ → ReadEnd → Type 0) → Errors → Plan → List R → ServedContent → Type 0
 IsServedBy gives errors plan readers served =
     OverGivenFiles gives errors (map id_of plan.peers) readers (λ files. IsServed errors plan files served)
 
--- whether there may be so many shards
+-- whether this number of shards is allowed
 abbrev pub is_shard_count : ℕ → Bool
 is_shard_count shards = nat_le 1 shards && nat_le shards 16

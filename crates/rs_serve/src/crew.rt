@@ -1,7 +1,7 @@
 //! The threads of a run: all that they take, their start, and their join.
 //!
-//! Our choices: the shards start before the workers; where the system refuses a thread, those that run are
-//! drained and joined.
+//! Our choices: the shards start before the workers. If the system refuses a thread, those that run are drained and
+//! joined.
 
 ghost use Rattle.std.specs.Prelude.{◌≡◌, ◌<◌, ◌≤◌, true, [], All, IfOk, IfSome, IsTrue, length, map, vec_len};
 ghost use Rattle.std.specs.Prelude.{vec_capacity};
@@ -74,7 +74,7 @@ pub(crate) struct Ran {
 }
 
 impl<R: Read + Drop> Room<R> {
-    // Room for so many peers and shards. Refused where memory is.
+    // Room for so many peers and shards. It fails if memory is refused.
     fn new(alloc: Global, peers: usize, shards: usize) -> Result<Room<R>, AllocError>
         ensures room_for_handles { IfOk result (λ room. (peers ≤ vec_capacity room.workers)
             × (shards ≤ vec_capacity room.shards)) }
@@ -94,7 +94,7 @@ impl<R: Read + Drop> Room<R> {
 }
 
 impl<R: Read + Drop> Crew<R> {
-    // Takes all memory that a run needs before its first thread starts. Refused where memory is.
+    // Takes all memory that a run needs before its first thread starts. It fails if memory is refused.
     pub(crate) fn new(
         alloc: Global,
         plan: &Arc<Exchange>,
@@ -117,7 +117,7 @@ impl<R: Read + Drop> Crew<R> {
     }
 }
 
-// Runs all threads of a crew in a scope of their own, and joins them. None where the system refuses one.
+// Runs all threads of a crew in a scope of their own, and joins them. None if the system refuses one.
 pub(crate) fn run<T: Threads + Wait + Sync, R: Read + Send + Drop, G: Gate>(
     rt: &T,
     alloc: Global,
@@ -138,7 +138,7 @@ pub(crate) fn run<T: Threads + Wait + Sync, R: Read + Send + Drop, G: Gate>(
     )
 }
 
-// Runs all threads in a scope, and joins them. None where the system refuses one.
+// Runs all threads in a scope, and joins them. None if the system refuses one.
 fn run_in<'s, E, T: Threads + Wait + Sync, R: Read + Send + Drop + 's, G: Gate>(
     scope: &'s Scope<'s, E>,
     rt: &'s T,
@@ -174,8 +174,8 @@ fn run_in<'s, E, T: Threads + Wait + Sync, R: Read + Send + Drop + 's, G: Gate>(
     Some(join_all(rt, room, from, to))
 }
 
-// Starts all threads, and keeps their handles. Answers whether all were started; where the system refuses one, the
-// handles are those of the first.
+// Starts all threads, and keeps their handles. Answers whether all were started. If the system refuses a thread, the
+// handles are those of the first threads.
 fn start<'s, E, T: Threads + Wait + Sync, R: Read + Send + Drop + 's, G: Gate>(
     scope: &'s Scope<'s, E>,
     rt: &'s T,

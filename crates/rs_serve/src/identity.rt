@@ -1,4 +1,4 @@
-//! Who a peer of the plan is in a recording.
+//! How a recording identifies a peer of the plan.
 
 ghost use Rattle.std.specs.Prelude.{◌≡◌};
 ghost use Rattle.rs_choice.specs.Plan.{peer_of};
@@ -7,7 +7,7 @@ ghost use Rattle.rs_serve.specs.Identity.{id_of};
 use rs_choice::PeerSpec;
 use rs_session::PeerId;
 
-/// Who a peer is in a recording: its address and its AS number.
+/// The address and the AS number by which a recording identifies a peer.
 pub fn peer_id(peer: &PeerSpec) -> PeerId
     ensures { result ≡ id_of (peer_of peer.now) }
 {

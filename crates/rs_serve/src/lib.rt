@@ -2,7 +2,7 @@
 //! the tables, with rings between them.
 //!
 //! A shard is one of 1 to 16 parts of all prefixes. The router of `rs_router` takes the changes of all peers out of
-//! their rings, and hands each one to the shard that holds the routes of its prefix.
+//! their rings. It hands each change to the shard that has the routes of its prefix.
 //!
 //! Reading order, the shards: `part_laws` (what the part of a list leaves), `taking` (what one item makes of the
 //! tables), `shard` (all items), `shard_crew` (all shards), `laws` (what their tables come to). Before a run:

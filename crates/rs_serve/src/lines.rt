@@ -20,7 +20,7 @@ pub(crate) struct Lines<R: Read> {
     pub(crate) from: Vec<Receiver<Word>>,
 }
 
-// The rings of all peers. Refused where memory is.
+// The rings of all peers. Refused if memory is.
 pub(crate) fn open_lines<R: Read + Drop>(
     alloc: Global,
     plan: &Exchange,
@@ -44,7 +44,7 @@ pub(crate) fn open_lines<R: Read + Drop>(
 }
 
 impl<R: Read + Drop> Lines<R> {
-    // Opens the ring of one peer more: the job of its worker, and the receiving end. Refused where memory is.
+    // Opens the ring of one peer more: the job of its worker, and the receiving end. Refused if memory is.
     fn open(
         &mut self,
         alloc: Global,

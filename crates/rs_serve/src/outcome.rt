@@ -9,7 +9,7 @@ use crate::fault::FloorRefused;
 /// of its file failed. `settled` says of each peer whether all that it sent is known to have been received. The
 /// function takes no memory.
 ///
-/// Fails with `Memory` where memory was refused. Else it fails with `Read` of the least peer whose read failed, else
+/// Fails with `Memory` if memory was refused. Else it fails with `Read` of the least peer whose read failed, else
 /// with `Unsettled` of the least peer that isn't settled.
 pub fn verdict(memory: bool, failed: &[bool], settled: &[bool]) -> Result<(), FloorRefused>
     ensures { IsVerdict memory failed.now settled.now result }

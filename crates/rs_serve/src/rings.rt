@@ -20,7 +20,7 @@ pub(crate) struct Rings {
     pub(crate) to: Vec<Sender<Routed>>,
 }
 
-// The rings of all shards, and what each one gathers changes in. Refused where memory is.
+// The rings of all shards, and what each one gathers changes in. Refused if memory is.
 pub(crate) fn open_rings(
     alloc: Global,
     plan: &Arc<Exchange>,
@@ -43,7 +43,7 @@ pub(crate) fn open_rings(
 }
 
 impl Rings {
-    // Opens the ring of one shard more: its job, with nothing gathered yet, and the sending end. Refused where memory
+    // Opens the ring of one shard more: its job, with nothing gathered yet, and the sending end. Refused if memory
     // is.
     fn open(
         &mut self,

@@ -17,7 +17,7 @@ use std::sync::Wait;
 /// What a shard answers.
 #[derive(Drop)]
 pub struct ShardEnd {
-    /// Its tables: none where it was refused memory.
+    /// Its tables; None if it was refused memory.
     pub tables: Option<Tables>,
     /// The end of the ring through which it received, of which nothing is left to come.
     pub from: Receiver<Routed>,
@@ -38,7 +38,7 @@ pub fn shard_worker<G: Gate>(
 ) -> ShardEnd
     requires unreceived { from.received ≡ [] }
     requires new { (peer : ℕ) → rib_of tables peer ≡ nothing_held }
-    // Each peer's routes are those that its changes leave which were received up to its close.
+    // Each peer has the routes that its received changes leave, up to its close.
     ensures tables { IfSome result.tables (HoldReceived tables result.from.received) }
     ensures ended { EndsLast result.from.received }
     ensures ring { result.from.ring ≡ from.ring }

@@ -39,7 +39,7 @@ impl Promise<ShardEnd> for ShardOf {
 /// Starts all shards in a scope, one thread each, and keeps their handles: job `k` is the one of shard `k`.
 /// Answers whether all were started. It takes no memory but what the system takes for its threads.
 ///
-/// Where the system refuses a thread, no more are started: the handles are those of the first shards, and the
+/// If the system refuses a thread, no more are started: the handles are those of the first shards, and the
 /// other jobs are gone.
 pub fn start_shards<'s, E, R: Wait + Sync, G: Gate>(
     scope: &'s Scope<'s, E>,
@@ -65,7 +65,7 @@ pub fn start_shards<'s, E, R: Wait + Sync, G: Gate>(
     true
 }
 
-// Starts one shard. None where the system refuses a thread.
+// Starts one shard. None if the system refuses a thread.
 fn start_shard<'s, E, R: Wait + Sync, G: Gate>(
     scope: &'s Scope<'s, E>,
     rt: &'s R,
@@ -117,7 +117,7 @@ pub fn join_shards(
     complete
 }
 
-// Joins one shard: its tables, where it has them and received all that was sent.
+// Joins one shard: its tables, if it has them and received all that was sent.
 fn join_shard(
     rt: &impl Threads,
     handle: PromisedHandle<ShardEnd, ShardOf>,

@@ -1,4 +1,4 @@
-//! What one item makes of what a shard gathered, and the tables of all of them.
+//! What was gathered in a shard after one more item, and the tables of all that was gathered.
 
 ghost use Rattle.std.specs.Prelude.{List, ◌++◌, ◌∷◌, [], OnOk, IfSome};
 ghost use Rattle.rs_table.specs.Content.{TablesContent};
@@ -9,7 +9,7 @@ use rs_router::Routed;
 use rs_table::{Gathering, Tables};
 use std::alloc::AllocError;
 
-// What is gathered after one item more, where anything was. None where memory is refused.
+// What is gathered after one more item, if anything was gathered before. None if memory is refused.
 pub(crate) fn after_item(gathered: Option<Gathering>, item: Routed) -> Option<Gathering>
     ensures { (before : TablesContent) → (items : List Routed) → IfSome gathered (HoldReceived before items)
         → IfSome result (HoldReceived before (items ++ item ∷ [])) }
@@ -21,7 +21,7 @@ pub(crate) fn after_item(gathered: Option<Gathering>, item: Routed) -> Option<Ga
     }
 }
 
-// The tables of what was gathered, if it was. None where memory is refused.
+// The tables of what was gathered, if it was. None if memory is refused.
 pub(crate) fn settled(gathered: Option<Gathering>) -> Option<Tables>
     ensures { (before : TablesContent) → (items : List Routed) → IfSome gathered (HoldReceived before items)
         → IfSome result (HoldReceived before items) }
@@ -32,7 +32,7 @@ pub(crate) fn settled(gathered: Option<Gathering>) -> Option<Tables>
     }
 }
 
-// Takes an item: a change of a peer that isn't there, or whose session closed, is dropped. Refused where memory is.
+// Takes an item: a change of a peer that isn't there, or whose session closed, is dropped. Refused if memory is.
 fn take(gathered: &mut Gathering, item: Routed) -> Result<(), AllocError>
     ensures { OnOk result (Takes item gathered.old gathered.new) }
 {

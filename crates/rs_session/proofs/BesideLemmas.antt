@@ -1,4 +1,5 @@
--- An UPDATE that lists no prefix that covers one gives changes none of which concerns it, all at its record's time.
+-- If an UPDATE lists no prefix that covers a given one, none of its changes concerns that one. All have its record's
+-- time.
 use Rattle.std.proofs.Common.{◌≡◌, ◌∙◌, refl, ℕ, Bool, true, false, cond, List, [], ◌∷◌, ◌++◌, Option, Some, None, Result, Ok}
 use Rattle.std.specs.Prelude.{◌||◌, map, filter}
 use Rattle.std.specs.List.{list_any}

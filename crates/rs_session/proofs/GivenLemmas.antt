@@ -114,7 +114,7 @@ read-record errors peer r later (Gives changes) is fine none h =
     }
 read-record errors peer r later (Ends reason) is fine none h = absurd cc
 
--- where none does, a failed read closes it
+-- if none does, a failed read closes it
 closes_by_read : (errors : Errors) (peer : PeerId) (records : List MrtRecord) → some_ends errors peer records ≡ false
     → ClosesByRead (changes_of errors peer records (Some faults.Read))
 unfolding some_ends

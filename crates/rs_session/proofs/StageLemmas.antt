@@ -41,12 +41,13 @@ module _ {S : Type 0} (comes : Comes S) (shows : S → Option MrtRecord) where
     read = rw empty (rw full at m.read);
   }
 
-  -- where no record is held and none comes, none may be read
+  -- if no record is at hand and none comes, none may be read
   pub may_read-none : (old : Stage S) (end : Option SourceFault) → old.held ≡ false → comes old.source [] end
       → MayRead comes shows old [] end
   may_read-none old end empty come = record { later = []; come = come; read = rw empty refl }
 
-  -- a stage with the same fields but for the source and what is held keeps what may come, where it keeps what may be read
+  -- a stage that differs in the source and the record at hand alone keeps what may come, if it keeps what may be
+  -- read
   pub keeps_by_reading : (old new : Stage S) → new ≡ record old { source = new.source; held = true } → Fetches comes shows old new None
       → Keeps comes shows old new
   keeps_by_reading old new same h changes passed m = record {
@@ -63,7 +64,7 @@ module _ {S : Type 0} (comes : Comes S) (shows : S → Option MrtRecord) where
   pub over-closed : (stage : Stage S) → stage.closed ≡ true → IsOver comes shows stage
   over-closed stage closed changes passed m = (rw closed at m.left, rw closed at m.counted)
 
-  -- where no record may be read, the close for that reason comes
+  -- if no record may be read, the close for that reason comes
   pub closes_at_end : (old fetched new : Stage S) (reason : Reason) → old.closed ≡ false → old.waiting ≡ []
       → fetched ≡ record old { source = fetched.source; held = false } → Fetches comes shows old fetched (Some reason)
       → new ≡ closed_by fetched → KeepsBehind comes shows (close_at 0 reason) old new
@@ -79,7 +80,7 @@ module _ {S : Type 0} (comes : Comes S) (shows : S → Option MrtRecord) where
 
   -- ---- reading
 
-  -- the record that is held is one of those that may be read
+  -- the record at hand is one of those that may be read
   pub may_read-held : (old new : Stage S) (r : MrtRecord) (records : List MrtRecord) (end : Option SourceFault) → old.held ≡ true
       → new.held ≡ false → new.source ≡ old.source → shows old.source ≡ Some r → MayRead comes shows new records end
       → MayRead comes shows old (r ∷ records) end
@@ -218,7 +219,7 @@ module _ {S : Type 0} (comes : Comes S) (shows : S → Option MrtRecord) where
 
 -- ---- how many changes may come
 
--- no more octets are held than the record is spelled with
+-- the record at hand has no more octets than its spelling
 pub held_le : (held : Bool) (shown : Option MrtRecord) → held_octets held shown ≤ octets_of shown
 held_le true (Some r) = omega arith
 held_le held shown = omega arith

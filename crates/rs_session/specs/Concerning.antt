@@ -1,5 +1,5 @@
--- Which changes concern a prefix, and which of a session are passed over where only that prefix is asked for, up
--- to a time (RFC 4271, sections 3.1 and 9.1.4).
+-- Which changes concern a prefix, and which are passed over if only this prefix is asked for, up to a time (RFC
+-- 4271, sections 3.1 and 9.1.4).
 use Rattle.std.specs.Prelude.{◌≡◌, ℕ, nat_lt, Bool, true, false, List, [], ◌∷◌, ◌++◌}
 use Rattle.std.specs.Prelude.{Option, Some, None, Result, Ok, Err}
 use Rattle.std.specs.List.{list_any}
@@ -13,7 +13,7 @@ use Rattle.rs_session.specs.Stage.{Comes, Stage, May, IsOver, Says}
 use Rattle.rs_session.specs.declared.beside.Only.{Only}
 use Rattle.rs_change.specs.declared.word.Word.{Word}
 
--- a change concerns a prefix: it announces or withdraws one that covers it, or is a loss or a close of the session
+-- a change concerns a prefix if it announces or withdraws a prefix that covers it, or is a loss or a close
 abbrev pub body_concerns : IpPrefix → ChangeBody → Bool
 body_concerns prefix (Announced changed attributes) = covers changed prefix
 body_concerns prefix (Withdrawn changed) = covers changed prefix
@@ -23,29 +23,29 @@ body_concerns prefix (Closed reason) = true
 abbrev pub concerns : IpPrefix → Change → Bool
 concerns prefix change = body_concerns prefix change.body
 
--- a time is past another; none is where no other is given
+-- a time is past a limit; no time is past if there is no limit
 abbrev pub is_past : Option ℕ → ℕ → Bool
 is_past None time = false
 is_past (Some until) time = nat_lt until time
 
--- a change is later than a time
+-- a change is later than the limit
 abbrev pub is_later : Option ℕ → Change → Bool
 is_later until change = is_past until change.time
 
--- changes that may be passed over: none concerns the prefix, and none is later than the time
+-- changes that may be passed over: none concerns the prefix, and none is later than the limit
 pub record ArePassedOver (prefix : IpPrefix) (until : Option ℕ) (changes : List Change) : Type 0 where
   pub beside : list_any (concerns prefix) changes ≡ false
   pub in_time : list_any (is_later until) changes ≡ false
 
--- ---- what an answer to `next_word_on` says
+-- ---- the answers to `next_word_on`
 
--- whatever may come after may come before, with these changes in front
+-- these changes, and then whatever may come in the new state, may come in the old state
 abbrev pub KeepsBehindAll : {S : Type 0} → Comes S → (S → Option MrtRecord) → List Change → Stage S → Stage S → Type 0
 KeepsBehindAll comes shows front old new =
     (changes : List Change) (passed : ℕ) → May comes shows new changes passed
     → May comes shows old (front ++ changes) passed
 
--- behind the changes that were passed over, an answer says what one to `next_word` says
+-- these changes were passed over; from there, the answer means what an answer to `next_word` means
 abbrev pub SaysBehind : {S : Type 0} → Comes S → (S → Option MrtRecord) → List Change → Stage S → Stage S
     → Result (Option Word) AllocError → Type 0
 SaysBehind comes shows over old new (Ok (Some word)) =
@@ -54,42 +54,43 @@ SaysBehind comes shows over old new (Ok (Some word)) =
 SaysBehind comes shows over old new (Ok None) = IsOver comes shows old × (new ≡ old)
 SaysBehind comes shows over old new (Err refused) = KeepsBehindAll comes shows over old new × (new.passed ≡ old.passed)
 
--- some changes were passed over, none of which concerns the prefix or is later than the time, and behind them an
--- answer says what one to `next_word` says; refused memory, what was passed over stays passed over
+-- Some changes were passed over. None of these concerns the prefix, and none is later than the limit. From there,
+-- the answer means what an answer to `next_word` means. If memory was refused, changes that were passed over stay
+-- passed over.
 pub record SaysOn {S : Type 0} (comes : Comes S) (shows : S → Option MrtRecord) (prefix : IpPrefix) (until : Option ℕ)
     (old new : Stage S) (result : Result (Option Word) AllocError) : Type 0 where
   pub over : List Change
   pub are_over : ArePassedOver prefix until over
   pub says : SaysBehind comes shows over old new result
 
--- ---- the loop and the step of both `next_word`, which asks for every change (None), and `next_word_on`
+-- ---- the loop and the step of `next_word`, which asks for every change (None), and of `next_word_on`
 
--- changes that may be passed over: none where every change is asked for
+-- changes that may be passed over; if every change is asked for, there are none
 abbrev pub MayPass : Option Only → List Change → Type 0
 MayPass None changes = changes ≡ []
 MayPass (Some only) changes = ArePassedOver only.prefix only.until changes
 
--- what an answer says
+-- the meaning of an answer to either function
 abbrev pub SaysOf : {S : Type 0} → Comes S → (S → Option MrtRecord) → Option Only → Stage S → Stage S
     → Result (Option Word) AllocError → Type 0
 SaysOf comes shows None old new result = Says comes shows old new result
 SaysOf comes shows (Some only) old new result = SaysOn comes shows only.prefix only.until old new result
 
--- what a record says may be passed over
+-- the changes of a record may be passed over
 abbrev pub IsBeside : Option Only → RecordEffect → Type 0
 IsBeside only (Gives changes) = MayPass only changes
 IsBeside only PassesOver = ⊥
 IsBeside only (Ends reason) = ⊥
 
--- the record that is shown is passed over, as what it says may be; or nothing changes
+-- true: the record that is shown is passed over, since its changes may be; false: nothing changes
 abbrev pub PassesShown : {S : Type 0} → Option MrtRecord → Option Only → Stage S → Bool → Stage S → Type 0
 PassesShown shown only old false new = new ≡ old
 PassesShown (Some r) only old true new =
     IsBeside only (effect_of old.errors old.peer r) × (new ≡ record old { held = false })
 PassesShown None only old true new = ⊥
 
--- behind the changes that were passed over, the session goes on, and no more may come than before; or the close is
--- given
+-- These changes were passed over. Then the session goes on, and whatever may come now might have come before. Or the
+-- close is given.
 abbrev pub StepsBehind : {S : Type 0} → Comes S → (S → Option MrtRecord) → List Change → Stage S → Stage S
     → Result (Option Word) AllocError → Type 0
 StepsBehind comes shows over old new (Ok None) =

@@ -5,7 +5,7 @@ abbrev pub held_count : Bool → ℕ
 held_count true = 1
 held_count false = 0
 
--- what is counted, and the record that is held, took as many octets at least as they are records: with the
--- octets that are left, the count fits
+-- Each record that was counted took at least one octet, and so did the record at hand, if there is one. So their
+-- number and that of the octets to come fit in 64 bits.
 abbrev pub CountFits : ℕ → Bool → ℕ → Type 0
 CountFits counted held room = 0 < counted + held_count held → counted + held_count held + room < 2 ^ 64

@@ -1,5 +1,5 @@
--- What a record says to the session of one peer (RFC 6396, sections 4.4.3 and 4.4.4; RFC 4271, sections 4.2
--- to 4.5 and 6).
+-- What a record means for the session of one peer (RFC 6396, sections 4.4.3 and 4.4.4; RFC 4271, sections 4.2 to 4.5
+-- and 6).
 use Rattle.std.specs.Prelude.{ℕ, not, ◌&&◌, ◌==◌, List, [], ◌∷◌, Result, Ok, Err, if◌then◌else◌}
 use Rattle.rs_mrt.specs.Entry.{Meaning, Message, State, Other, entry_of}
 use Rattle.rs_mrt.specs.Fault.{number_of}
@@ -17,14 +17,14 @@ use Rattle.rs_session.specs.declared.peer.PeerId.{PeerId}
 use Rattle.rs_change.specs.declared.word.Reason.{Reason}
 use Rattle.rs_change.specs.declared.word.Reason.TheVariants as reasons
 
--- what a record does to the session of one peer: it is passed over, as another peer's; or it gives changes, perhaps
--- none; or it ends the session
+-- The effect of a record on the session of one peer. It is passed over as a record of another peer, it gives
+-- changes, or it ends the session. The list of changes may be empty.
 pub data RecordEffect : Type 0 where
   PassesOver : RecordEffect
   Gives : List Change → RecordEffect
   Ends : Reason → RecordEffect
 
--- the session is lost, and may come up again: later records are read as before (our choice)
+-- the session is lost and may come up again; later records are read as before (our choice)
 abbrev pub loss : ℕ → RecordEffect
 loss time = Gives (record { time = time; body = Lost } ∷ [])
 
@@ -32,7 +32,8 @@ loss time = Gives (record { time = time; body = Lost } ∷ [])
 abbrev pub ESTABLISHED : ℕ
 ESTABLISHED = 6
 
--- a change of state: the session is lost when it leaves Established; any other change has no effect (our choice)
+-- a change of state: the session is lost if it leaves Established; other changes of state have no effect (our
+-- choice)
 abbrev pub effect_of_state : ℕ → ℕ → ℕ → RecordEffect
 effect_of_state time old new = if (old == ESTABLISHED) && not (new == ESTABLISHED) then loss time else Gives []
 
@@ -41,8 +42,8 @@ abbrev pub reason_of : MessageFault → Reason
 reason_of (message_fault.Bgp code subcode) = reasons.Bgp code subcode
 reason_of message_fault.Memory = reasons.Memory
 
--- a message: an UPDATE gives its changes; OPEN, KEEPALIVE and ROUTE-REFRESH give none; a NOTIFICATION loses the session
--- (RFC 4271, section 6.4); a fault ends it
+-- The effect of a message. An UPDATE gives its changes; OPEN, KEEPALIVE and ROUTE-REFRESH give none. A NOTIFICATION
+-- is the loss of the session (RFC 4271, section 6.4). A fault ends the session.
 abbrev pub effect_of_message : ℕ → Result MessageContent MessageFault → RecordEffect
 effect_of_message time (Ok IsOpen) = Gives []
 effect_of_message time (Ok (IsUpdate update)) = Gives (changes_of_update time update)
@@ -52,8 +53,9 @@ effect_of_message time (Ok IsKeepAlive) = Gives []
 effect_of_message time (Ok IsRefresh) = Gives []
 effect_of_message time (Err fault) = Ends (reason_of fault)
 
--- an entry: a message or a change of state of this peer counts; an entry of another peer, or of another kind, is passed
--- over (our choice); a record at fault ends the session. Faults in messages are handled by one of the standards.
+-- The effect of an entry. Messages and changes of state of this peer count. Entries of other peers and of other
+-- kinds are passed over (our choice). A record at fault ends the session. Faults in messages are handled by one of
+-- the standards.
 abbrev pub effect_of_entry : Errors → PeerId → ℕ → Result Meaning MrtFault → RecordEffect
 effect_of_entry errors peer time (Ok (Message asn address octets)) =
     if is_of peer asn address then effect_of_message time (message_by errors octets) else PassesOver
@@ -62,6 +64,6 @@ effect_of_entry errors peer time (Ok (State asn address old new)) =
 effect_of_entry errors peer time (Ok Other) = PassesOver
 effect_of_entry errors peer time (Err fault) = Ends (reasons.Mrt (number_of fault))
 
--- what a record does to the session of a peer
+-- the effect of a record on the session of a peer
 unfoldable pub effect_of : Errors → PeerId → MrtRecord → RecordEffect
 effect_of errors peer r = effect_of_entry errors peer r.time (entry_of r)

@@ -1,4 +1,4 @@
--- What the records of a peer's session say (RFC 4271, section 3.1; RFC 6396, section 4.4).
+-- The changes that the records of a peer's session give (RFC 4271, section 3.1; RFC 6396, section 4.4).
 use Rattle.std.specs.Prelude.{ℕ, Bool, true, false, not, List, [], ◌∷◌, ◌++◌, Option, Some, None, find, take_while}
 use Rattle.std.specs.Prelude.{count_by}
 use Rattle.std.specs.List.{flat_map}
@@ -51,7 +51,7 @@ reason_at_end None = EndOfFile
 reason_at_end (Some (faults.Mrt fault)) = Mrt (number_of fault)
 reason_at_end (Some faults.Read) = Read
 
--- the close: by the first record that ends the session, or else by how the file ends
+-- the close: it comes from the first record that ends the session, or else from the end of the file
 abbrev pub closing : Errors → PeerId → Option SourceFault → Option MrtRecord → List Change
 closing errors peer end (Some r) = changes_by r.time (effect_of errors peer r)
 closing errors peer end None = close_at 0 (reason_at_end end) ∷ []
@@ -68,7 +68,7 @@ passed_of errors peer records = count_by (λ r. passes_over (effect_of errors pe
 
 -- ---- a file
 
--- all changes of a peer's session that a file has, with faults in messages handled by one of the standards
+-- all changes of a peer's session in a file; faults in messages are handled by one of the standards
 abbrev pub changes_in_by : Errors → PeerId → List ℕ → List Change
 changes_in_by errors peer file = changes_of errors peer (records_of file) (source_end (end_of file))
 
@@ -76,7 +76,7 @@ changes_in_by errors peer file = changes_of errors peer (records_of file) (sourc
 abbrev pub passed_in_by : Errors → PeerId → List ℕ → ℕ
 passed_in_by errors peer file = passed_of errors peer (records_of file)
 
--- RFC 4271 is meant where no standard is named
+-- the standard for faults, if none is named: RFC 4271
 abbrev pub default_standard : Errors
 default_standard = Rfc4271
 

@@ -1,6 +1,6 @@
 -- Which recorded files a reader may give to a session (RFC 6396, section 2). A reader is not a file: the octets to
--- come are unknown, so statements speak of each file that it may give. Our choices: a session reads no further than
--- the record that ends it, and takes no more than 2^50 octets of a reader.
+-- come are unknown, so statements speak of each file that the reader may give. Our choices: a session reads no
+-- further than the record that ends it, and takes at most 2^50 octets of a reader.
 use Rattle.std.specs.Prelude.{◌≡◌, ◌<◌, ◌≤◌, ◌⊎◌, ℕ, Bool, true, false, List, [], ◌++◌, length, take, slice_get, Some}
 use Rattle.std.specs.List.{list_any}
 use Rattle.rs_mrt.specs.Reader.{ReadEnd, FileEnds, ReadFails}
@@ -13,7 +13,7 @@ use Rattle.rs_session.specs.FileChanges.{ends, changes_of, passed_of, changes_in
 use Rattle.rs_session.specs.declared.peer.PeerId.{PeerId}
 use Rattle.rs_update.specs.declared.errors.Errors.{Errors}
 
--- whether some record in these octets ends the session of the peer: a message at fault, or a record at fault
+-- whether some record in these octets ends the session of the peer: because a message is at fault, or the record is
 abbrev pub has_end : Errors → PeerId → List ℕ → Bool
 has_end errors peer octets = list_any (λ r. ends (effect_of errors peer r)) (records_of octets)
 
@@ -25,8 +25,8 @@ module _ {R : Type 0} (gives : R → List ℕ → ReadEnd → Type 0) (errors : 
     pub given : gives reader file FileEnds
     pub fits : length file < read_limit
 
-  -- the reader may give more than this file, but a record in the file ends the session of the peer: the octets after
-  -- the file make no difference
+  -- The reader may give more than this file, but a record in the file ends the session of the peer. The octets
+  -- behind the file make no difference.
   pub record IsGivenToClose (peer : PeerId) (reader : R) (file : List ℕ) : Type 0 where
     pub later : List ℕ
     pub end : ReadEnd
@@ -34,12 +34,12 @@ module _ {R : Type 0} (gives : R → List ℕ → ReadEnd → Type 0) (errors : 
     pub fits : length file ≤ read_limit
     pub closes : has_end errors peer file ≡ true
 
-  -- this is a file that the reader may give, as far as the session of the peer depends on it
+  -- the reader may give this file, as far as the session of the peer depends on the file
   abbrev pub IsGiven : PeerId → R → List ℕ → Type 0
   IsGiven peer reader file = IsGivenWhole reader file ⊎ IsGivenToClose peer reader file
 
-  -- the reader may give these octets, no record of which ends the session, and then the next read fails or the limit of
-  -- 2^50 octets is met
+  -- The reader may give these octets, and no record in them ends the session. Then the next read fails, or the limit
+  -- of 2^50 octets is reached.
   pub record FailsBehind (peer : PeerId) (reader : R) (came : List ℕ) : Type 0 where
     pub later : List ℕ
     pub end : ReadEnd
@@ -51,23 +51,23 @@ module _ {R : Type 0} (gives : R → List ℕ → ReadEnd → Type 0) (errors : 
   abbrev pub MayFail : PeerId → R → Type 0
   MayFail peer reader = (came : List ℕ) × FailsBehind peer reader came
 
-  -- ---- what a session says in all
+  -- ---- the whole list of changes of a session
 
-  -- these are the changes of a file that the reader may give, and so many of its records are passed over
+  -- the changes are those of a file that the reader may give, and so many of its records are passed over
   pub record SaysGiven (peer : PeerId) (reader : R) (changes : List Change) (passed : ℕ) : Type 0 where
     pub file : List ℕ
     pub given : IsGiven peer reader file
     pub says : changes ≡ changes_in_by errors peer file
     pub counts : passed ≡ passed_in_by errors peer file
 
-  -- a read failed: these are the changes of the whole records before it, and a close for that reason
+  -- a read failed: the changes are those of the whole records before it, and then a close for that reason
   pub record SaysFailed (peer : PeerId) (reader : R) (changes : List Change) (passed : ℕ) : Type 0 where
     pub came : List ℕ
     pub fails : FailsBehind peer reader came
     pub says : changes ≡ changes_of errors peer (records_of came) (Some faults.Read)
     pub counts : passed ≡ passed_of errors peer (records_of came)
 
-  -- what a session over a reader gives: the changes of a file that the reader may give, or those up to a failed read
+  -- the changes of a session over a reader: those of a file that the reader may give, or those up to a failed read
   abbrev pub IsRead : PeerId → R → List Change → ℕ → Type 0
   IsRead peer reader changes passed = SaysGiven peer reader changes passed ⊎ SaysFailed peer reader changes passed
 
@@ -80,7 +80,7 @@ module _ {R : Type 0} (gives : R → List ℕ → ReadEnd → Type 0) (errors : 
         → slice_get peers place ≡ Some peer → slice_get readers place ≡ Some reader
         → slice_get files place ≡ Some file → IsGiven peer reader file
 
-  -- there are files that the readers may give, one for each peer, of which this holds
+  -- there are files that the readers may give, one for each peer, for which the statement is true
   abbrev pub OverGivenFiles : List PeerId → List R → (List (List ℕ) → Type 0) → Type 0
   OverGivenFiles peers readers Holds = (files : List (List ℕ)) × AreGiven peers readers files × Holds files
 

@@ -1,4 +1,4 @@
--- What recorded files say:
+-- What recorded files mean:
 pub mod Peer  -- a peer as records name it
 pub mod UpdateChanges  -- what one UPDATE says
 pub mod Effect  -- what one record says

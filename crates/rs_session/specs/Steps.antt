@@ -1,4 +1,4 @@
--- One step in the reading of a session: a record is fetched, and what it says is applied (our choice).
+-- One step in the reading of a session: a record is fetched, and its effect is applied (our choice).
 use Rattle.std.specs.Prelude.{◌≡◌, ℕ, ◌+◌, Bool, true, false, List, [], ◌∷◌, Option, Some, None, Result, Ok, Err}
 use Rattle.rs_mrt.specs.Record.{MrtRecord}
 use Rattle.rs_mrt.specs.declared.fault.SourceFault.{SourceFault}
@@ -13,8 +13,8 @@ use Rattle.rs_change.specs.declared.word.Word.{Word}
 
 -- ---- giving
 
--- the first change that waits is given, and what was passed over before it is counted; or none waits, and
--- nothing changes
+-- The first waiting change is given, and the records passed over before it are counted. Or no change waits, and
+-- nothing changes.
 abbrev pub GivesWaiting : {S : Type 0} → Stage S → Option Word → Stage S → Type 0
 GivesWaiting old (Some word) new =
     (old.waiting ≡ change_of word ∷ new.waiting)
@@ -24,7 +24,8 @@ GivesWaiting old None new = (old.waiting ≡ []) × (new ≡ old)
 
 -- ---- fetching
 
--- a record is there to be read, and no other records may be read than before; or there is none, for this reason
+-- None: whatever records may be read now might have been read before, and one may be at hand. Some reason: there may
+-- be no record, for this reason.
 abbrev pub Fetches : {S : Type 0} → Comes S → (S → Option MrtRecord) → Stage S → Stage S → Option Reason → Type 0
 Fetches comes shows old new None =
     (records : List MrtRecord) (end : Option SourceFault) → MayRead comes shows new records end
@@ -32,18 +33,18 @@ Fetches comes shows old new None =
 Fetches comes shows old new (Some reason) =
     (end : Option SourceFault) × MayRead comes shows old [] end × (reason ≡ reason_at_end end)
 
--- the answer of a source behind what fetching gave
+-- the last answer of the source, after a record was fetched or was not
 abbrev pub answer_of_fetch : Option Reason → Result Bool SourceFault
 answer_of_fetch (Some reasons.Read) = Err faults.Read
 answer_of_fetch reason = Ok true
 
 -- ---- applying
 
--- the session is closed, and what was passed over is counted
+-- the session is closed, and the records that were passed over are counted
 abbrev pub closed_by : {S : Type 0} → Stage S → Stage S
 closed_by stage = record stage { held = false; closed = true; passed = stage.passed + stage.skipped; skipped = 0 }
 
--- the effect of a record is applied to the session: only the end of the session is given at once
+-- the effect of a record is applied to the session; only a close is given at once
 abbrev pub Applies : {S : Type 0} → ℕ → RecordEffect → Stage S → Option Word → Stage S → Type 0
 Applies time PassesOver old None new = new ≡ record old { held = false; skipped = old.skipped + 1 }
 Applies time (Gives changes) old None new = new ≡ record old { held = false; waiting = changes }

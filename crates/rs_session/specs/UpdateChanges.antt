@@ -19,7 +19,8 @@ is_listed prefixes prefix = list_any (λ other. is_prefix other prefix) prefixes
 abbrev pub unicast : List IpPrefix → List IpPrefix
 unicast prefixes = filter (λ prefix. not (is_multicast prefix)) prefixes
 
--- the prefixes that an UPDATE withdraws: those in its Withdrawn Routes field that it doesn't announce too (section 4.3)
+-- the prefixes that an UPDATE withdraws: those in its Withdrawn Routes field that it does not also announce (section
+-- 4.3)
 abbrev pub withdrawn_only : List IpPrefix → List IpPrefix → List IpPrefix
 withdrawn_only withdrawn nlri = filter (λ prefix. not (is_multicast prefix) && not (is_listed nlri prefix)) withdrawn
 
@@ -31,20 +32,20 @@ withdraws time prefix = record { time = time; body = Withdrawn prefix }
 abbrev pub announces : ℕ → PathAttributes → IpPrefix → Change
 announces time attributes prefix = record { time = time; body = Announced prefix attributes }
 
--- the announcements of an UPDATE: all have the same attributes
+-- the announcements of an UPDATE; all of them have the same attributes
 abbrev pub announcements : ℕ → Option PathAttributes → List IpPrefix → List Change
 announcements time None prefixes = []
 announcements time (Some attributes) prefixes = map (announces time attributes) prefixes
 
--- the changes of an UPDATE, each with the time of its record: first what it withdraws, then what it announces
--- (our choice), in order
+-- The changes of an UPDATE, with the time of its record. Withdrawals come first, then announcements (our choice),
+-- each in order.
 abbrev pub changes_of_update : ℕ → UpdateContent → List Change
 changes_of_update time update =
     map (withdraws time) (withdrawn_only update.withdrawn update.nlri)
     ++ announcements time update.attributes (unicast update.nlri)
 
--- the changes of an UPDATE whose routes are all treated as withdrawn: first what it withdraws, then what it
--- would announce (RFC 7606, section 2), in order
+-- The changes of an UPDATE whose routes are all treated as withdrawn (RFC 7606, section 2). First come the prefixes
+-- that it withdraws, then those that it would announce, each in order.
 abbrev pub changes_of_treated : ℕ → TreatedContent → List Change
 changes_of_treated time treated =
     map (withdraws time) (withdrawn_only treated.withdrawn treated.nlri)

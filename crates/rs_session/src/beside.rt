@@ -1,4 +1,4 @@
-//! Which records may be passed over where one prefix is asked for, up to a time: UPDATEs that list no prefix that
+//! Which records may be passed over if only one prefix is asked for, up to a time: UPDATEs that list no prefix that
 //! covers it (RFC 4271, sections 4.3 and 9.1.4).
 
 ghost use Rattle.std.specs.Prelude.{◌≡◌, IsTrue, Some};
@@ -10,7 +10,7 @@ use crate::peer::PeerId;
 use rs_mrt::{Entry, Record, entry};
 use rs_update::{Errors, Prefix, concerns_prefix};
 
-// What is asked for, where not every change is: the changes on one prefix, up to a time.
+// The changes that are asked for, unless every change is: those on one prefix, up to a time.
 #[derive(Clone, Copy, Drop)]
 pub(crate) struct Only {
     pub(crate) prefix: Prefix,
@@ -18,8 +18,8 @@ pub(crate) struct Only {
     pub(crate) until: Option<u32>,
 }
 
-// Whether a record may be passed over: it is an UPDATE of the peer, its faults handled by one of the standards,
-// that lists no prefix that covers the one asked for, and it isn't past the time. Nothing is allocated.
+// Whether a record may be passed over. It is an UPDATE of the peer, not past the time, with faults handled by one of
+// the standards. It lists no prefix that covers the one asked for. Nothing is allocated.
 #[tactic(auto, unfolding(crate::specs::Effect::effect_of), using(crate::proofs::BesideLemmas::beside_message))]
 pub(crate) fn is_beside(errors: Errors, peer: PeerId, record: &Record<'_>, only: Only) -> bool
     ensures { IsTrue result → IsBeside (Some only) (effect_of errors peer (record_of «record».now)) }
@@ -39,7 +39,7 @@ pub(crate) fn is_beside(errors: Errors, peer: PeerId, record: &Record<'_>, only:
     }
 }
 
-// Whether a time is past another; none is where no other is given.
+// Whether a time is past a limit; no time is past if there is no limit.
 fn is_past(until: Option<u32>, time: u32) -> bool
     ensures { result ≡ is_past until time }
 {

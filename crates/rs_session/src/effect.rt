@@ -35,7 +35,7 @@ pub enum Effect {
 /// Reads what a record says to the session of a peer (RFC 6396, sections 4.4.3 and 4.4.4), faults in messages being
 /// handled by one of the standards. The record counts alone: what the session said before makes no difference.
 ///
-/// Fails where memory is refused. Nothing is allocated for a record that is passed over.
+/// Nothing is allocated for a record that is passed over.
 #[tactic(auto, unfolding(crate::specs::Effect::effect_of))]
 pub fn read_record(
     alloc: Global,

@@ -37,7 +37,7 @@ pub fn a_reader_gives_a_file_or_fails<R: Read>(_reader: &R)
     front_of_a_record_says_the_same();
 }
 
-/// Where no record that came ends the session, a failed read closes it, as the last change.
+/// If no record that came ends the session, a failed read closes it, as the last change.
 pub fn a_failed_read_closes_last()
     ensures { FailedReadCloses }
 {}

@@ -3,9 +3,11 @@
 //! Reading order:
 //! - Whose a change is: `peer`. The change itself is of the crate `rs_change`.
 //! - One record: `withdrawn` and `pending` (its changes), `effect` (what it says), `beside` (whether it may be passed
-//!   over where one prefix is asked for).
+//!   over if one prefix is asked for).
 //! - One session: `session` (one change after another), `passing` (only those on one prefix).
 //! - What holds of the definitions that the contracts cite: `laws`.
+//!
+//! A call that allocates fails if memory is refused.
 #![tactic(auto)]
 
 mod beside;

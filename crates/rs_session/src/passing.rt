@@ -16,9 +16,10 @@ use rs_update::Prefix;
 use std::alloc::AllocError;
 
 impl<S: Source> Session<S> {
-    /// Gives the next change, passing over UPDATEs that list no prefix that covers `prefix` and aren't later than
-    /// `until`, in seconds since 1970; None is no limit. Their faults are found all the same. Memory is taken
-    /// only for what is given. Refused, what was passed over stays passed over, and nothing else is lost.
+    /// Gives the next change. It passes over UPDATEs that list no prefix that covers `prefix` and aren't later than
+    /// `until`, in seconds since 1970. None is no limit. Faults in such UPDATEs are found all the same. Memory is
+    /// taken only for changes that are given. If memory is refused, records that were passed over stay passed over,
+    /// and nothing else is lost.
     #[tactic(auto, using(crate::proofs::StageLemmas::something_comes))]
     pub fn next_word_on(
         &mut self,

@@ -1,7 +1,7 @@
 //! The changes of one record, given one after another (RFC 4271, sections 3.1, 4.3 and 8.2.2).
 //!
 //! Our choices: of an UPDATE first what is withdrawn, then what is announced; a multicast prefix gives no
-//! change. Where an UPDATE is treated as withdrawn, what it announces is withdrawn too (RFC 7606, section 2).
+//! change. If an UPDATE is treated as withdrawn, what it announces is withdrawn too (RFC 7606, section 2).
 
 ghost use Rattle.std.specs.Prelude.{◌≡◌, false, [], ◌∷◌, IfOk, IfSome, OnErr};
 ghost use Rattle.std.specs.Option.{option_map};
@@ -110,7 +110,7 @@ impl Pending {
 
     /// Gives the next change; none once all were given. It is never a close.
     ///
-    /// Fails where memory is refused: then nothing is given, and the changes are as before.
+    /// Fails if memory is refused: then nothing is given, and the changes are as before.
     pub fn next(&mut self) -> Result<Option<Word>, AllocError>
         ensures ok { IfOk result (λ given. GivesFirst self.old given self.new) }
         ensures open { IfOk result (λ given. IfSome given (λ word. is_close (change_of word) ≡ false)) }
@@ -147,7 +147,7 @@ impl Pending {
     }
 }
 
-// Puts the attributes where all announcements of an UPDATE can share them.
+// Puts the attributes if all announcements of an UPDATE can share them.
 fn share(
     alloc: Global,
     attributes: Option<Attributes>,

@@ -108,17 +108,16 @@ impl<S: Source> Session<S> {
         }
     }
 
-    /// Gives the next change; after the close none. A close says the end of the records, or why the session
-    /// ended before it. Refused, the session is as before: nothing is lost, and the same call gives the same
-    /// change once there is memory.
+    /// Gives the next change; after the close it answers None. A close says that the records ended, or why the
+    /// session ended before. If memory is refused, the session is unchanged, and the next call gives the change if
+    /// there is memory.
     #[tactic(auto, using(crate::proofs::StageLemmas::something_comes))]
     pub fn next_word(&mut self) -> Result<Option<Word>, AllocError>
         ensures says { Says S.comes S.shows self.old self.new result }
         ensures closes { Closes self.old.closed self.new.closed result }
         // A source of so many octets gives no more changes before the close.
         ensures fewer { Fewer (most_changes S.room S.shows self.old) (most_changes S.room S.shows self.new) result }
-        // A close for want of readable records comes only where a read failed, or where the source takes no
-        // more octets.
+        // A close because records cannot be read comes only if a read failed, or if the source takes no more octets.
         ensures failures { CountsFailure (S.failures self.old.source) (S.failures self.new.source)
             (S.full self.new.source) (S.stopped self.old.source) (answer_behind result) }
         ensures goes_on { GoesOn (S.stopped self.old.source) (S.stopped self.new.source) result }
@@ -128,8 +127,8 @@ impl<S: Source> Session<S> {
         self.next_where(&None)
     }
 
-    // Gives the next change, passing over records that may be where only one prefix is asked for; None asks for every
-    // change.
+    // Gives the next change. If only one prefix is asked for, it passes over the records that may be; None asks for
+    // every change.
     pub(crate) fn next_where(&mut self, only: &Option<Only>) -> Result<Option<Word>, AllocError>
         ensures says { SaysOf S.comes S.shows only.now self.old self.new result }
         ensures closes { Closes self.old.closed self.new.closed result }
@@ -179,7 +178,7 @@ impl<S: Source> Session<S> {
         Ok(Some(word))
     }
 
-    // Reads one record or passes it over, and gives the close where that ends the session.
+    // Reads one record or passes it over. If it ends the session, the close is given.
     fn step(&mut self, only: &Option<Only>) -> Result<Option<Word>, AllocError>
         requires closed { self.old.closed ≡ false }
         requires waiting { self.old.waiting ≡ [] }
@@ -200,7 +199,7 @@ impl<S: Source> Session<S> {
         self.read_held()
     }
 
-    // Goes to the next record, unless one is still to be read. Where there is none, gives the reason for the close.
+    // Goes to the next record, unless one is still to be read. If there is none, gives the reason for the close.
     fn fetch(&mut self) -> Option<Reason>
         ensures same { self.new ≡ record self.old { source = self.new.source; held = is_none result } }
         ensures says { Fetches S.comes S.shows self.old self.new result }
@@ -251,8 +250,8 @@ impl<S: Source> Session<S> {
         }
     }
 
-    // Passes over the record that the source shows, where it is an UPDATE of the peer that lists no prefix that
-    // covers the one asked for, and isn't past the time.
+    // Passes over the record that the source shows if it may be: an UPDATE of the peer, not past the time. It must
+    // list no prefix that covers the one asked for.
     fn pass_held(&mut self, only: &Option<Only>) -> bool
         requires { self.old.held ≡ true }
         ensures { PassesShown (S.shows self.old.source) only.now self.old result self.new }

@@ -4,7 +4,7 @@ use Rattle.rs_choice.specs.declared.fault.PlanFault.TheVariants as plan
 use Rattle.rs_setup.specs.declared.setup.SetupFault.{SetupFault}
 use Rattle.rs_setup.specs.declared.setup.SetupFault.TheVariants as setup
 
--- a fault of the plan as one of the configuration; want of memory is none of the plan
+-- a fault of the plan as one of the configuration; that memory was refused is not a fault of the plan
 abbrev pub of_plan : PlanFault → SetupFault
 of_plan plan.Memory = setup.Memory
 of_plan fault = setup.Plan fault

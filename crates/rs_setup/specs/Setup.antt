@@ -18,11 +18,11 @@ peer_keys =
     codes "address" ∷ codes "as" ∷ codes "file" ∷ codes "id" ∷ codes "name" ∷ codes "preference"
     ∷ codes "refuse_from" ∷ []
 
--- the preference of a peer that is configured none of its own
+-- the preference of a peer if none is configured
 abbrev pub default_preference : ℕ
 default_preference = 100
 
--- the server by its keys; its identifier is its address where no other is configured
+-- the server by its keys; if no identifier is configured, it is the server's address
 pub record IsServerOf (keys : Members) (server : Local) : Type 0 where
   pub known : HasOnly server_keys keys
   pub asn : Needs keys (codes "as") IsWholeNumber server.asn
@@ -30,8 +30,9 @@ pub record IsServerOf (keys : Members) (server : Local) : Type 0 where
   pub id : MayHave keys (codes "id") IsAddress server.address server.id
   pub subnet : MayHave keys (codes "subnet") IsSomeSubnet None server.subnet
 
--- a peer and the path of its recorded file by the peer's keys; where nothing else is configured its
--- identifier is its address, its preference is the default and it refuses no routes
+-- A peer and the path of its recorded file, by the peer's keys. If no identifier is configured, it is the peer's
+-- address. If no preference is configured, it is the default, and if no refusals are configured, the peer refuses no
+-- routes.
 pub record IsPeerOf (keys : Members) (peer : Peer) (path : List ℕ) : Type 0 where
   pub known : HasOnly peer_keys keys
   pub name : Needs keys (codes "name") IsText peer.name
@@ -50,7 +51,7 @@ IsServer value server = (keys : Members) × (value ≡ table keys) × IsServerOf
 abbrev pub IsPeer : Data → Peer → List ℕ → Type 0
 IsPeer value peer file = (keys : Members) × (value ≡ table keys) × IsPeerOf keys peer file
 
--- as many peers and files as there are items, each those of the item at its place
+-- there are as many peers and files as items, each from the item at its place
 abbrev pub ArePeers : Items → List Peer → List (List ℕ) → Type 0
 ArePeers no_items [] [] = Unit {0}
 ArePeers (item value values) (peer ∷ peers) (file ∷ files) = IsPeer value peer file × ArePeers values peers files
@@ -60,8 +61,8 @@ ArePeers _ _ _ = ⊥
 abbrev pub ArePeersOf : Data → List Peer × List (List ℕ) → Type 0
 ArePeersOf value (peers, files) = (values : Items) × (value ≡ array values) × ArePeers values peers files
 
--- what a configuration's table sets up: the plan of the exchange, and the path of each peer's recorded file
--- in the order of the peers
+-- What the table of a configuration sets up: the plan of the exchange, and the path of each peer's recorded file, in
+-- the order of the peers.
 pub record IsSetup (keys : Members) (plan : Plan) (files : List (List ℕ)) : Type 0 where
   pub known : HasOnly top_keys keys
   pub server : Needs keys (codes "server") IsServer plan.local

@@ -1,5 +1,5 @@
--- What the values of a configuration stand for, and the keys that its tables have (our choice: RFC 4271
--- leaves configuration to the implementation).
+-- The meaning of the values of a configuration, and the keys that its tables have (our choice: RFC 4271 leaves
+-- configuration to the implementation).
 use Rattle.std.specs.Prelude.{◌≡◌, ℕ, ◌<◌, ◌≤◌, ◌^◌, pos, List, ◌++◌, map, codes, decimal, Option, IsSomeAnd}
 use Rattle.std.specs.Prelude.{MatchOption, All, ◌≢◌}
 use Rattle.std.specs.Int.{w32, from_be_bytes}
@@ -10,7 +10,7 @@ use Rattle.rs_update.specs.Prefix.{network_of}
 use Rattle.toml.specs.Data.{Data, integer, string, array, Items, Members, no_members, member, get_member}
 use Rattle.toml.specs.View.{items_of}
 
--- a value or a text stands for nothing of a sort
+-- a value or a text has no meaning of this sort
 abbrev pub StandsForNone : {V A : Type 0} → (V → A → Type 0) → V → Type 0
 StandsForNone {V} {A} StandsFor value = (found : A) → ¬ (StandsFor value found)
 
@@ -18,7 +18,7 @@ StandsForNone {V} {A} StandsFor value = (found : A) → ¬ (StandsFor value foun
 abbrev pub IsWholeNumber : Data → ℕ → Type 0
 IsWholeNumber value number = (value ≡ integer (pos number)) × (number < 2 ^ 32)
 
--- a text that writes an address as four decimal numbers with dots between them and without needless zeros
+-- a text is an address: four decimal numbers with dots between them and without needless zeros
 abbrev pub IsDottedAddress : List ℕ → ℕ → Type 0
 IsDottedAddress text address = (octets : List ℕ) × IsDotted text octets × (address ≡ from_be_bytes w32 octets)
 
@@ -30,8 +30,7 @@ IsAddress value address = (text : List ℕ) × (value ≡ string text) × IsDott
 abbrev pub HasNoSlash : List ℕ → Type 0
 HasNoSlash text = All (λ octet. octet ≢ 47) text
 
--- a text that writes a subnet as an address, a slash and a length of at most 32 bits; the address's host bits
--- are cleared
+-- a text is a subnet: an address, a slash and a length of at most 32 bits; the address's host bits are cleared
 abbrev pub IsSlashedSubnet : List ℕ → IpPrefix → Type 0
 IsSlashedSubnet text prefix =
     (front : List ℕ) × (address len : ℕ) × (text ≡ front ++ codes "/" ++ decimal len)
@@ -43,7 +42,7 @@ IsSlashedSubnet text prefix =
 abbrev pub IsSubnet : Data → IpPrefix → Type 0
 IsSubnet value prefix = (text : List ℕ) × (value ≡ string text) × IsSlashedSubnet text prefix
 
--- the subnet, where there may be none
+-- a subnet, or none
 abbrev pub IsSomeSubnet : Data → Option IpPrefix → Type 0
 IsSomeSubnet value subnet = IsSomeAnd subnet (IsSubnet value)
 
@@ -59,16 +58,16 @@ AreTexts items texts = items ≡ items_of (map string texts)
 abbrev pub IsTexts : Data → List (List ℕ) → Type 0
 IsTexts value texts = value ≡ array (items_of (map string texts))
 
--- a key that must be there: what the value at it stands for
+-- a key that must be there, and the meaning of its value
 abbrev pub Needs : {A : Type 0} → Members → List ℕ → (Data → A → Type 0) → A → Type 0
 Needs members key StandsFor found = IsSomeAnd (get_member key members) (λ value. StandsFor value found)
 
--- a key that may be there: what the value at it stands for, or the default
+-- a key that may be there: the meaning of its value, or the default
 abbrev pub MayHave : {A : Type 0} → Members → List ℕ → (Data → A → Type 0) → A → A → Type 0
 MayHave members key StandsFor default found =
     MatchOption (get_member key members) (found ≡ default) (λ value. StandsFor value found)
 
--- each key of a table is one of those that are known
+-- each key of a table is a known one
 abbrev pub HasOnly : List (List ℕ) → Members → Type 0
 HasOnly known no_members = Unit {0}
 HasOnly known (member key value later) = Contains known key × HasOnly known later

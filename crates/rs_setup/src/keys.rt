@@ -36,9 +36,9 @@ impl Place {
 
 /// A table of a configuration, and where it stands.
 ///
-/// A key that must be there and isn't is refused as `Missing`, one whose value is of another type or out of
-/// its range as `NotValid`. `Memory` is answered where the text of a fault or a copy of a text finds no
-/// memory.
+/// A key that must be there and isn't is refused as `Missing`. A key whose value is of another type or out of its
+/// range is refused as `NotValid`. `Memory` is answered if there is no memory for the text of a fault or a copy of a
+/// text.
 #[derive(Drop)]
 pub struct Section<'a> {
     place: Place,
@@ -147,7 +147,7 @@ impl<'a> Section<'a> {
         Ok(String::from_str(alloc, found)?)
     }
 
-    /// The texts of the list at a key, none where the key isn't there.
+    /// The texts of the list at a key, none if the key isn't there.
     pub fn texts(&self, alloc: Global, key: &str) -> Result<Vec<String>, SetupFault>
         ensures { IfOk result (λ texts. MayHave (members_in self.now) key.now IsTexts []
             (map string_bytes texts.items)) }

@@ -3,6 +3,8 @@
 //! Reading order: `setup` (what is set up, and why a configuration is refused), `peers` (the server's table
 //! and those of the peers), `keys` (a table's keys), `values`, `laws`. A configuration is a TOML table (our
 //! choice: RFC 4271 leaves configuration to the implementation).
+//!
+//! A call that allocates fails if memory is refused.
 #![tactic(auto)]
 
 mod keys;

@@ -46,9 +46,7 @@ pub fn subnet(value: &Value) -> Option<Prefix>
     }
 }
 
-/// The texts of the list that a value is; none where it isn't a list of texts.
-///
-/// Fails where memory is refused.
+/// The texts of the list that a value is; none if it isn't a list of texts.
 pub fn texts(alloc: Global, value: &Value) -> Result<Option<Vec<String>>, AllocError>
     ensures found { IfOk result (λ found. IfSome found
         (λ texts. IsTexts (view value.now) (map string_bytes texts.items))) }
@@ -60,7 +58,7 @@ pub fn texts(alloc: Global, value: &Value) -> Result<Option<Vec<String>>, AllocE
     }
 }
 
-// The texts that the values are; none where one of them isn't a text.
+// The texts that the values are; none if one of them isn't a text.
 fn list_of_texts(alloc: Global, values: &[Value]) -> Result<Option<Vec<String>>, AllocError>
     ensures found { IfOk result (λ found. IfSome found
         (λ texts. AreTexts (items_view values.now) (map string_bytes texts.items))) }

@@ -19,7 +19,7 @@ Joins true old new prefix section =
     (added_of prefix section ≡ Written) × (routes_in new ≡ routes_in old ++ route_by Written prefix section)
 Joins false old new prefix section = new ≡ old
 
--- the attributes that a message announces prefixes with
+-- the attributes with which a message announces prefixes
 abbrev pub attributes_told : MessageContent → Option PathAttributes
 attributes_told (IsUpdate update) = update.attributes
 attributes_told content = None

@@ -1,5 +1,5 @@
--- The beginning of a peer's session that a table gives: the session comes up, and UPDATEs announce the routes that the
--- peer has in the table (RFC 6396, sections 4.4.3 and 4.4.4; RFC 4271, section 4.3).
+-- The beginning of a peer's session that a table gives. The session comes up, and UPDATEs announce the peer's routes
+-- in the table. Its form is that of RFC 6396, sections 4.4.3 and 4.4.4, and RFC 4271, section 4.3.
 use Rattle.std.specs.Prelude.{◌≡◌, ℕ, ◌+◌, ◌^◌, ◌<◌, ◌≤◌, false, List, [], ◌∷◌, ◌++◌, length, map}
 use Rattle.std.specs.Prelude.{Option, Some, None, replicate, nat_lt, if◌then◌else◌}
 use Rattle.std.specs.List.{flat_map, AllByRecursion}
@@ -26,13 +26,13 @@ pub record TableRoute : Type 0 where
   pub prefix : IpPrefix
   pub attributes : PathAttributes
 
--- an UPDATE that announces prefixes: its path attributes as they stand in the table, what they say, and the prefixes
+-- an UPDATE that announces prefixes: its path attributes as they stand in the table, their values, and the prefixes
 pub record Announcing : Type 0 where
   pub section : List ℕ
   pub attributes : PathAttributes
   pub prefixes : List IpPrefix
 
--- the routes that it announces
+-- the routes that an UPDATE announces
 abbrev pub routes_of : Announcing → List TableRoute
 routes_of update = map (λ prefix. record { prefix = prefix; attributes = update.attributes }) update.prefixes
 
@@ -49,7 +49,7 @@ announced time route = announces time route.attributes route.prefix
 abbrev pub nlri_spelling : List IpPrefix → List ℕ
 nlri_spelling prefixes = flat_map spelled_prefix prefixes
 
--- how many octets an UPDATE has beside its path attributes and NLRI: 19 of the header, and two lengths
+-- how many octets an UPDATE has without its path attributes and NLRI: 19 of the header, and two lengths
 abbrev pub fixed_len : ℕ
 fixed_len = 23
 
@@ -59,15 +59,15 @@ update_head section_len nlri_len =
     replicate 16 0xFF ++ big_bytes 2 (fixed_len + section_len + nlri_len)
     ++ 2 ∷ (big_bytes 2 0 ++ big_bytes 2 section_len)
 
--- the same, path attributes, NLRI
+-- an UPDATE: its head, path attributes and NLRI
 unfoldable pub update_spelling : List ℕ → List ℕ → List ℕ
 update_spelling section nlri = update_head (length section) (length nlri) ++ section ++ nlri
 
 abbrev pub announcing_spelling : Announcing → List ℕ
 announcing_spelling update = update_spelling update.section (nlri_spelling update.prefixes)
 
--- what a peer can have sent: path attributes without fault, at least one prefix, no multicast prefix, and no more than
--- 4,096 octets
+-- An UPDATE that a peer can have sent has path attributes without fault, at least one prefix, and at most 4,096
+-- octets. Each of its prefixes has its host bits cleared and is not a multicast prefix.
 pub record IsRoutePrefix (prefix : IpPrefix) : Type 0 where
   pub address : prefix.address < 2 ^ 32
   pub cleared : IsPrefix prefix.address prefix.len
@@ -123,13 +123,13 @@ announcing_record start update = message_record start (announcing_spelling updat
 abbrev pub updates_spelling : Start → List Announcing → List ℕ
 updates_spelling start updates = flat_map (λ update. record_spelling (announcing_record start update)) updates
 
--- the beginning of a session: it comes up, and these UPDATEs follow
+-- the beginning of a session: the session comes up, and these UPDATEs follow
 abbrev pub opening_spelling : Start → List Announcing → List ℕ
 opening_spelling start updates = record_spelling (up_record start) ++ updates_spelling start updates
 
 -- ---- an entry of a table
 
--- the attributes that a section gives announced routes, where it has no fault (RFC 4271, section 6.3)
+-- the attributes that a section gives announced routes, if it has no fault (RFC 4271, section 6.3)
 abbrev pub attributes_by : Option UpdateFault → List ℕ → Option PathAttributes
 attributes_by None section = attributes_of (items_of section)
 attributes_by (Some fault) section = None
@@ -137,21 +137,21 @@ attributes_by (Some fault) section = None
 abbrev pub sound_attributes : List ℕ → Option PathAttributes
 sound_attributes section = attributes_by (section_fault section) section
 
--- what becomes of an entry by its attributes
+-- what is done with an entry, by its attributes
 abbrev pub added_by : Option PathAttributes → Added
 added_by None = LeftOut AttributesAtFault
 added_by (Some attributes) = Written
 
--- What becomes of an entry, by its prefix and path attributes: it is written, or left out, since the prefix is
--- multicast, since no message holds the attributes beside the prefix, or since the attributes are at fault; in this
--- order (our choice).
+-- What is done with an entry, by its prefix and path attributes: it is written, or it is left out for one of three
+-- reasons. In this order (our choice): the prefix is multicast, no message has room for the attributes and the
+-- prefix, or the attributes are at fault.
 abbrev pub added_of : IpPrefix → List ℕ → Added
 added_of prefix section =
     if is_multicast prefix then LeftOut Multicast
     else if nat_lt 4096 (fixed_len + length section + length (spelled_prefix prefix)) then LeftOut TooLong
     else added_by (sound_attributes section)
 
--- the route that is written, if it is
+-- the route that is written, if one is
 abbrev pub route_with : Option PathAttributes → IpPrefix → List TableRoute
 route_with None prefix = []
 route_with (Some attributes) prefix = record { prefix = prefix; attributes = attributes } ∷ []

@@ -1,4 +1,4 @@
--- The sessions that a table is read into. Nothing here is of a standard: all of it is our choice.
+-- The sessions into which a table is read. Nothing here is from a standard: all of it is our choice.
 use Rattle.std.specs.Prelude.{◌≡◌, ℕ, ◌<◌, List, [], ◌++◌, ◌∷◌, length, Option, Some, None, slice_index_or}
 use Rattle.rs_mrt.specs.Reader.{ReadEnd, FileEnds}
 use Rattle.rs_mrt.specs.Record.{MrtRecord}
@@ -15,7 +15,7 @@ use Rattle.rs_start.specs.declared.part.TableEnd.TheVariants.{EndOfFile, NextInd
 use Rattle.rs_start.specs.declared.sessions.PeerSession.{PeerSession}
 
 module _ {W : Type 0} (taken : W → Option (List ℕ)) where
-  -- the session of a peer begins with these routes more, if one is written
+  -- the session of a peer begins with these further routes, if a session is written
   pub record GoesOn (old new : Writing W) (more : List TableRoute) : Type 0 where
     pub goes : Goes taken old new more
     pub start : new.start ≡ old.start
@@ -32,7 +32,7 @@ module _ {W : Type 0} (taken : W → Option (List ℕ)) where
     pub each : (place : ℕ) (d : PeerSession W) → place < length olds
         → GoesBy (slice_index_or olds place d).writer (slice_index_or news place d).writer (told_from place rows)
 
-  -- so many entries stand at the front of octets, and then the rest, and their rows were added to the sessions
+  -- so many entries stand at the beginning of the octets, and then the rest; their rows were added to the sessions
   pub record AddsEntries (prefix : IpPrefix) (count : ℕ) (octets rest : List ℕ) (olds news : List (PeerSession W))
       : Type 0 where
     pub entries : List TableEntry
@@ -40,14 +40,14 @@ module _ {W : Type 0} (taken : W → Option (List ℕ)) where
     pub leads : Leads entry_at octets entries rest
     pub go : AllGo olds news (rows_of prefix entries)
 
-  -- the rows of a record of routes were
+  -- the rows of a record of routes were added to the sessions
   pub record AddsRoutes (body : List ℕ) (olds news : List (PeerSession W)) : Type 0 where
     pub rows : List TableRow
     pub has : HasRoutes body rows
     pub go : AllGo olds news rows
 
-  -- The session of a peer is written whole, if one is: what was taken of it announces the routes that it began with,
-  -- and these.
+  -- The session of a peer is written whole, if one is written. What was taken of it announces the routes with which
+  -- it began, and these.
   abbrev pub EndsWith : Writing W → Writing W → List TableRoute → Type 0
   EndsWith old new more =
       (before : Option (List ℕ)) (routes : List TableRoute) → IsBegun taken before old routes
@@ -80,7 +80,7 @@ module _ {R W : Type 0} (gives : R → List ℕ → ReadEnd → Type 0) (taken :
   Ends old new (NextIndex at) after =
       (next : MrtRecord) × (after ≡ next ∷ []) × (part_of next ≡ Index) × Takes (gives old.reader) (gives new.reader) (next ∷ [])
 
-  -- the next record was, or the table ends
+  -- the next record was read and its rows were added, or the table ends
   abbrev pub AddsNext : TableReading R → TableReading R → List (PeerSession W) → List (PeerSession W) → Option TableEnd
       → Type 0
   AddsNext old new olds news None = Adds old new olds news
@@ -93,14 +93,14 @@ module _ {R W : Type 0} (gives : R → List ℕ → ReadEnd → Type 0) (taken :
     pub after : List MrtRecord
     pub ends : Ends now new end after
 
-  -- A reader may have given a file that is these octets, or that has them at its front, if the index of the next table is
-  -- their last record.
+  -- A reader may have given a file that is these octets. Or the file begins with these octets, if their last record
+  -- is the index of the next table.
   abbrev pub Given : TableReading R → TableReading R → List ℕ → TableEnd → List MrtRecord → Type 0
   Given first last octets EndOfFile after = gives first.reader octets FileEnds × (after ≡ [])
   Given first last octets (NextIndex at) after =
       Came (gives first.reader) (gives last.reader) octets × ((next : MrtRecord) × (after ≡ next ∷ []) × (part_of next ≡ Index))
 
-  -- One table stands in what a reader may have given, and the sessions say what it has of each peer.
+  -- One table is in what a reader may have given, and the sessions have what the table has of each peer.
   pub record Written (first last : TableReading R) (place time collector : ℕ) (peers : List IndexPeer)
       (olds news : List (PeerSession W)) (end : TableEnd) : Type 0 where
     pub octets : List ℕ
@@ -110,7 +110,7 @@ module _ {R W : Type 0} (gives : R → List ℕ → ReadEnd → Type 0) (taken :
     pub is_table : IsTable octets place time collector peers rows after
     pub all_end : AllEnd taken olds news rows
 
-  -- wherever the index was read so, before
+  -- whichever index was read before, one table is written
   abbrev pub WritesTable : TableReading R → TableReading R → List (PeerSession W) → List (PeerSession W) → TableEnd → Type 0
   WritesTable old new olds news end =
       (first : TableReading R) (place time collector : ℕ) (peers : List IndexPeer)

@@ -8,7 +8,7 @@ use Rattle.rs_start.specs.declared.index.IndexPeer.{IndexPeer}
 
 -- ---- parts one after another
 
--- these parts stand one after another at the front of octets, each where it is looked up, and then the rest
+-- these parts stand one after another at the beginning of the octets, each as it is looked up, and then the rest
 abbrev pub Leads : {A : Type 0} → (List ℕ → Option (A × List ℕ)) → List ℕ → List A → List ℕ → Type 0
 Leads look octets [] rest = octets ≡ rest
 Leads {A} look octets (part ∷ later) rest =
@@ -16,8 +16,8 @@ Leads {A} look octets (part ∷ later) rest =
 
 -- ---- the index (section 4.3.1)
 
--- A peer entry: Peer Type, whose lowest bit says that the address is IPv6, and the next one that the AS number has four
--- octets; Peer BGP ID, Peer IP Address, Peer AS. An IPv6 address isn't kept (our choice).
+-- A peer entry: Peer Type, Peer BGP ID, Peer IP Address, Peer AS. The lowest bit of Peer Type says that the address
+-- is IPv6. The next bit says that the AS number has four octets. An IPv6 address isn't kept (our choice).
 abbrev pub is_ipv6 : ℕ → Bool
 is_ipv6 kind = kind % 2 == 1
 
@@ -37,7 +37,7 @@ peer_of kind octets = record {
   asn = big_number (asn_len kind) (drop (4 + address_len kind) octets);
 }
 
--- the peer entry at the front of octets, and the octets behind it
+-- the peer entry with which the octets begin, and the octets behind it
 unfoldable pub peer_at : List ℕ → Option (IndexPeer × List ℕ)
 peer_at [] = None
 peer_at (kind ∷ octets) =
@@ -79,7 +79,7 @@ entry_at octets =
       drop (big_number 2 (drop 6 octets)) (drop 8 octets),
     )
 
--- the same as it is spelled
+-- a RIB entry as it is spelled
 abbrev pub entry_spelling : TableEntry → List ℕ
 entry_spelling entry =
     big_bytes 2 entry.peer ++ big_bytes 4 entry.time ++ big_bytes 2 (length entry.section) ++ entry.section
@@ -89,12 +89,12 @@ pub record IsEntry (entry : TableEntry) : Type 0 where
   pub time : entry.time < 2 ^ 32
   pub section : length entry.section < 2 ^ 16
 
--- what is spelled so is looked up
+-- looking up an entry in its spelling finds the entry
 abbrev pub EntryIsRead : Type 0
 EntryIsRead =
     (entry : TableEntry) (rest : List ℕ) → IsEntry entry → entry_at (entry_spelling entry ++ rest) ≡ Some (entry, rest)
 
--- Sequence Number, prefix, Entry Count: the prefix is that of an UPDATE, of at most 32 bits
+-- Sequence Number, prefix, Entry Count; the prefix is spelled as in an UPDATE and has at most 32 bits
 abbrev pub rib_prefix : List ℕ → IpPrefix
 rib_prefix body =
     network_of (big_number 4 (take (octets_for (big_number 1 (drop 4 body))) (drop 5 body)))

@@ -1,4 +1,5 @@
--- The tables that a file has: the index of each, and the routes that its records have of each peer (RFC 6396, section 4.3).
+-- The tables in a file: the index of each table, and the routes that its records have of each peer (RFC 6396,
+-- section 4.3).
 use Rattle.std.specs.Prelude.{◌≡◌, ℕ, ◌==◌, if◌then◌else◌, Bool, true, false, List, [], ◌∷◌, ◌++◌, length, map, filter}
 use Rattle.std.specs.Prelude.{None}
 use Rattle.std.specs.List.{flat_map, AllByRecursion}
@@ -13,7 +14,8 @@ use Rattle.rs_start.specs.declared.part.Part.TheVariants.{Index, Routes, Other}
 
 -- ---- records
 
--- by Type and Subtype: TABLE_DUMP_V2 is 13, PEER_INDEX_TABLE is 1 of it, and RIB_IPV4_UNICAST is 2 of it
+-- the part of a table that a record is, by Type and Subtype: Type 13 is TABLE_DUMP_V2; its Subtypes 1 and 2 are
+-- PEER_INDEX_TABLE and RIB_IPV4_UNICAST
 abbrev pub part_by : ℕ → ℕ → Part
 part_by kind subtype =
     if kind == 13 then (if subtype == 1 then Index else if subtype == 2 then Routes else Other) else Other
@@ -41,7 +43,7 @@ pub record HasRoutes (body : List ℕ) (rows : List TableRow) : Type 0 where
   pub is_rib : IsRib body prefix entries
   pub rows_are : rows ≡ rows_of prefix entries
 
--- a record behind the index has these rows: it is no second index, and a record of another kind has none
+-- a record after the index has these rows; it is not a second index, and a record of another kind has no rows
 abbrev pub HasBy : Part → List ℕ → List TableRow → Type 0
 HasBy Index body rows = ⊥
 HasBy Routes body rows = HasRoutes body rows
@@ -50,7 +52,7 @@ HasBy Other body rows = rows ≡ []
 abbrev pub Has : MrtRecord → List TableRow → Type 0
 Has r rows = HasBy (part_of r) r.body rows
 
--- records behind the index have these rows, in order
+-- records after the index have these rows, in order
 abbrev pub AllHave : List MrtRecord → List TableRow → Type 0
 AllHave [] rows = rows ≡ []
 AllHave (r ∷ later) rows =
@@ -63,17 +65,17 @@ is_index_part Index = true
 is_index_part Routes = false
 is_index_part Other = false
 
--- the indexes among records: each begins a table
+-- the indexes among the records; a table begins with each
 abbrev pub indexes_of : List MrtRecord → List MrtRecord
 indexes_of records = filter (λ r. is_index_part (part_of r)) records
 
--- the times of the tables that they begin, in order
+-- the times of the tables that begin among the records, in order
 abbrev pub table_times : List MrtRecord → List ℕ
 table_times records = map (λ r. r.time) (indexes_of records)
 
--- One table among those that may stand in a file: its records are an index behind those of so many other tables, and then
--- records that have these rows. Behind it nothing stands, or the index of the next table. Of the first table only records of
--- other kinds stand before the index. Each record is whole.
+-- One of the tables in a file. Its records are an index, after those of so many other tables, and then records that
+-- have these rows. Behind it there is nothing, or the index of the next table. Before the index of the first table
+-- there are only records of other kinds. Each record is whole.
 pub record IsTable (octets : List ℕ) (place time collector : ℕ) (peers : List IndexPeer) (rows : List TableRow)
     (after : List MrtRecord) : Type 0 where
   pub before : List MrtRecord
@@ -94,11 +96,11 @@ pub record IsTable (octets : List ℕ) (place time collector : ℕ) (peers : Lis
 abbrev pub rows_from : ℕ → List TableRow → List TableRow
 rows_from place rows = filter (λ row. row.entry.peer == place) rows
 
--- the route of a row with the right flags, unless the row is left out
+-- the route of a row, with the right flags, unless the row is left out
 abbrev pub told_by : TableRow → List TableRoute
 told_by row =
     route_by (added_of row.prefix (mended row.entry.section)) row.prefix (mended row.entry.section)
 
--- the routes that a table has from that peer and that are not left out, in order
+-- the routes of a peer in a table that are not left out, in order
 abbrev pub told_from : ℕ → List TableRow → List TableRoute
 told_from place rows = flat_map told_by (rows_from place rows)

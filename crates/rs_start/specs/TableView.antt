@@ -1,4 +1,4 @@
--- What is read of a table, without where it lies in memory.
+-- What is read of a table, as values.
 use Rattle.rs_start.specs.declared.rib.RibEntry.{RibEntry}
 use Rattle.rs_start.specs.Table.{TableEntry}
 

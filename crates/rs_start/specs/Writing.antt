@@ -1,4 +1,4 @@
--- The beginning of a session that is being written. Nothing here is of a standard: all of it is our choice.
+-- The beginning of a session that is being written. Nothing here is from a standard: all of it is our choice.
 use Rattle.std.specs.Prelude.{◌≡◌, ℕ, List, [], ◌++◌, Option, map}
 use Rattle.std.specs.List.{AllByRecursion}
 use Rattle.std.specs.Io.KnownBytes.{Appends}
@@ -8,15 +8,16 @@ use Rattle.rs_start.specs.declared.start.Start.{Start}
 use Rattle.rs_start.specs.Opening.{Announcing, IsSound, TableRoute, announced, opening_spelling, routes_in}
 use Rattle.rs_start.specs.Opening.{updates_spelling}
 
--- the writer, whose session it is, the octets that wait to be written, and the UPDATE that is being filled, if one is
+-- the writer, whose session it is, the octets that wait to be written, and the UPDATE that is being filled, if there
+-- is one
 pub record Writing (W : Type 0) : Type 0 where
   pub out : W
   pub start : Start
   pub waiting : List ℕ
   pub held : List Announcing
 
--- What a writer has taken since, and what waits, begin the session with these routes, but for those of the UPDATE that
--- is being filled.
+-- The octets that a writer has taken since, and those that wait, are the beginning of a session with these routes.
+-- The routes of the UPDATE that is being filled are not in them yet.
 pub record IsBegun {W : Type 0} (taken : W → Option (List ℕ)) (before : Option (List ℕ)) (writing : Writing W)
     (routes : List TableRoute) : Type 0 where
   pub sent : List ℕ
@@ -26,21 +27,22 @@ pub record IsBegun {W : Type 0} (taken : W → Option (List ℕ)) (before : Opti
   pub sound : AllByRecursion IsSound updates
   pub adds_up : routes_in updates ++ routes_in writing.held ≡ routes
 
--- after this, the session begins with these routes more
+-- after this, the session begins with these further routes
 abbrev pub Goes : {W : Type 0} → (W → Option (List ℕ)) → Writing W → Writing W → List TableRoute → Type 0
 Goes taken old new more =
     (before : Option (List ℕ)) (routes : List TableRoute) → IsBegun taken before old routes
     → IsBegun taken before new (routes ++ more)
 
--- These octets, read as the peer's session, say one announcement for each of these routes, in order and at the start's
--- time, and then what the octets behind them say: where none are behind, the end of the file.
+-- These octets, read as the peer's session, give one announcement for each of these routes, in order and at the
+-- start's time. Then come the changes of the octets behind them. If there are none, that is the close at the end of
+-- the file.
 abbrev pub Announces : Start → List ℕ → List TableRoute → Type 0
 Announces start octets routes =
     (errors : Errors) (behind : List ℕ)
     → changes_in_by errors start.peer (octets ++ behind)
     ≡ map (announced start.time) routes ++ changes_in_by errors start.peer behind
 
--- all is written: a writer has taken since just the octets that announce these routes
+-- all is written: the writer has since taken exactly the octets that announce these routes
 pub record IsWhole (before now : Option (List ℕ)) (start : Start) (routes : List TableRoute) : Type 0 where
   pub octets : List ℕ
   pub appends : Appends before now octets
@@ -51,7 +53,7 @@ Ends taken old new =
     (before : Option (List ℕ)) (routes : List TableRoute) → IsBegun taken before old routes
     → IsWhole before (taken new.out) old.start routes
 
--- what waited was written
+-- the waiting octets were written
 pub record Flushes {W : Type 0} (taken : W → Option (List ℕ)) (old new : Writing W) : Type 0 where
   pub appends : Appends (taken old.out) (taken new.out) old.waiting
   pub waiting : new.waiting ≡ []

@@ -6,12 +6,13 @@ use Rattle.rs_table.specs.Left.{same_prefix}
 use Rattle.rs_table.specs.Table.{TableRow}
 use Rattle.rs_survey.specs.declared.asked_rows.AskedRows.{AskedRows}
 
--- the sender is the one that is asked for, if one is
+-- the sender is the one that is asked for; true if none is asked for
 abbrev pub is_asked_sender : Option ℕ → ℕ → Bool
 is_asked_sender None peer = true
 is_asked_sender (Some from) peer = from == peer
 
--- the prefix is the one that is asked for, if one is, or where longer ones are asked for too, one that this covers
+-- The prefix is the one that is asked for; true if none is asked for. If longer prefixes are asked for too, it may
+-- be one that the given prefix covers.
 abbrev pub is_asked_prefix : Option IpPrefix → Bool → IpPrefix → Bool
 is_asked_prefix None longer prefix = true
 is_asked_prefix (Some asked) longer prefix = if longer then covers asked prefix else same_prefix asked prefix

@@ -10,19 +10,19 @@ use Rattle.rs_survey.specs.MissingCounts.{missing_findings_on, unserved_findings
 use Rattle.rs_survey.specs.Summary.{findings_on}
 use Rattle.rs_survey.specs.Tally.{IsTally, TallyContent}
 
--- the client, if it is about one, is a peer of the plan
+-- the client, if the count is about one, is a peer of the plan
 abbrev pub IsOfPeer : TablesContent → Counted → Type 0
 IsOfPeer tables Summary = Unit {0}
 IsOfPeer tables (Missing client from) = client < length tables.plan.peers
 IsOfPeer tables (Unserved client from) = client < length tables.plan.peers
 
--- what is counted on a prefix
+-- the findings that are counted on a prefix
 abbrev pub counted_on : TablesContent → Counted → IpPrefix → List Finding
 counted_on tables Summary prefix = findings_on tables prefix
 counted_on tables (Missing client from) prefix = missing_findings_on tables client from prefix
 counted_on tables (Unserved client from) prefix = unserved_findings_on tables client from prefix
 
--- it is counted on some prefixes
+-- the findings on some prefixes are counted
 pub record CountsOn (tables : TablesContent) (what : Counted) (some : List IpPrefix) (tally : TallyContent) : Type 0
   where
     pub peers : tally.peers ≡ length tables.plan.peers

@@ -1,7 +1,7 @@
--- Where a client's choice differs between two tables (ours).
+-- Where a client's choice differs between two tables (our choice).
 --
--- Tables of two exchanges number their peers each in its own way, so that senders are compared by their names. Since
--- when a client gets a route is not compared.
+-- The peers of two exchanges have numbers of their own, so senders are compared by their names. The times from which
+-- a client gets its routes are not compared.
 use Rattle.std.specs.Prelude.{◌≡◌, ℕ, ⊤, List, Option, Some, None, MatchOption, slice_get}
 use Rattle.std.specs.Option.{option_and_then, option_map}
 use Rattle.std.specs.declared.cmp.Ordering.TheVariants.{Less}
@@ -18,7 +18,7 @@ use Rattle.rs_survey.specs.declared.choices.Choices.{Choices}
 
 -- ---- what is compared
 
--- of a route that a client gets: the name of its sender, and its attributes
+-- what is compared of a route: the name of its sender, and its attributes
 pub record Choice : Type 0 where
   pub sender : Option (List ℕ)
   pub attributes : PathAttributes
@@ -30,12 +30,13 @@ name_of plan peer = option_map (λ one. one.name) (slice_get plan.peers peer)
 abbrev pub choice_of : Plan → SentRoute → Choice
 choice_of plan route = record { sender = name_of plan route.peer; attributes = route.attributes }
 
--- a client of some tables; none if it is absent from them
+-- a client of some tables; None if it is absent from them
 pub record ClientOf : Type 0 where
   pub tables : TablesContent
   pub client : Option ℕ
 
--- the route that it gets on a prefix (RFC 7947, section 2.3), none if it is absent; and what is compared of that
+-- the route that the client gets on a prefix (RFC 7947, section 2.3), None if the client is absent; below, what is
+-- compared of it
 abbrev pub route_of : ClientOf → IpPrefix → Option SentRoute
 route_of one prefix = option_and_then (λ client. best_of one.tables client prefix) one.client
 
@@ -47,7 +48,7 @@ choice_on one prefix = option_map (choice_of one.tables.plan) (route_of one pref
 
 -- ---- the differences, one after another
 
--- between which two clients, and behind which prefix, the differences are to come; in how many rows at most
+-- the two clients to be compared, the prefix behind which differences are to come, and the most rows that may come
 pub record ToCompare : Type 0 where
   pub before : ClientOf
   pub after : ClientOf
@@ -59,12 +60,12 @@ abbrev pub IsBehind : Option IpPrefix → IpPrefix → Type 0
 IsBehind None prefix = ⊤
 IsBehind (Some last) prefix = prefix_cmp last prefix ≡ Less
 
--- both clients get the same on a prefix
+-- both clients get the same route on a prefix
 abbrev pub IsSame : ToCompare → IpPrefix → Type 0
 IsSame both prefix = choice_on both.before prefix ≡ choice_on both.after prefix
 
--- A difference is the next: on its prefix the choices differ, and on each prefix between the last one and this they
--- are the same. It has both routes, and the next one is behind it.
+-- A difference is the next one. On its prefix the choices differ, and they agree on each prefix between the last one
+-- and this one. It has both routes, and the differences to come are behind it.
 pub record IsNextDifference (old new : ToCompare) (one : Choices) : Type 0 where
   pub behind : IsBehind old.last one.prefix
   pub before : option_map sent_route_of one.before ≡ route_of old.before one.prefix
@@ -74,7 +75,7 @@ pub record IsNextDifference (old new : ToCompare) (one : Choices) : Type 0 where
       → IsSame old prefix
   pub last : new.last ≡ Some one.prefix
 
--- the next difference, or none where the choices are the same on all prefixes behind the last one; of the same clients
+-- the next difference of the two clients; None if their choices agree on all prefixes behind the last one
 abbrev pub GivesDifference : ToCompare → Option Choices → ToCompare → Type 0
 GivesDifference old result new =
     (new.before ≡ old.before) × (new.after ≡ old.after)

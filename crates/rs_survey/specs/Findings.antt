@@ -1,4 +1,4 @@
--- What is counted on a prefix, and which findings are the same (our choice).
+-- The findings that are counted on a prefix, and which findings are equal (our choice).
 use Rattle.std.specs.Prelude.{◌<◌, ℕ, ◌+◌, ◌==◌, ◌&&◌, Bool}
 use Rattle.rs_choice.specs.declared.step.Step.{Step}
 use Rattle.rs_choice.specs.declared.step.Step.TheVariants.{Preference, PathLength, Origin, Med, Identifier, Address}
@@ -32,7 +32,7 @@ reason_number reasons.RefusedByName = 3
 reason_number reasons.RefusedByCommunity = 4
 reason_number (reasons.Lost step) = 5 + step_number step
 
--- three numbers that tell a finding from every other one: of its kind, and what it is about
+-- three numbers that distinguish a finding from all others: its kind, and what it is about
 abbrev pub key_of : Finding → Key
 key_of (Left sender) = record { kind = 0; first = sender; second = 0 }
 key_of (Ineligible sender condition) = record { kind = 1; first = sender; second = condition_number condition }
@@ -43,14 +43,14 @@ key_of (Removed step) = record { kind = 5; first = step_number step; second = 0 
 key_of Hidden = record { kind = 6; first = 0; second = 0 }
 key_of (Missing sender reason) = record { kind = 7; first = sender; second = reason_number reason }
 
--- two findings are the same
+-- two keys are equal
 abbrev pub is_same_key : Key → Key → Bool
 is_same_key one other = one.kind == other.kind && (one.first == other.first && one.second == other.second)
 
 abbrev pub is_same : Finding → Finding → Bool
 is_same one other = is_same_key (key_of one) (key_of other)
 
--- its peers are of an exchange of so many peers
+-- the peers of a finding have numbers below a count
 abbrev pub IsKnown : ℕ → Finding → Type 0
 IsKnown peers (Left sender) = sender < peers
 IsKnown peers (Ineligible sender condition) = sender < peers

@@ -11,34 +11,33 @@ use Rattle.rs_explain.specs.Explanations.{IsExplanation}
 use Rattle.rs_survey.specs.declared.on_prefix.MissingOn.{MissingOn}
 use Rattle.rs_survey.specs.Asked.{is_asked_sender}
 
--- a peer's route, if it has one, where the peer is not the client, and the client gets the route of no peer or of
--- another one
+-- a peer's route, if it has one; the peer is not the client, and the client does not get this route
 abbrev pub missing_among : ℕ → ℕ → Option SentRoute → Option SentRoute → Option SentRoute
 missing_among client peer best route = if (peer == client) || is_from peer best then None else route
 
--- the route that a peer has left on a prefix, where it is missing to the client
+-- the route that a peer has left on a prefix, if the client does not get it
 abbrev pub missing_from : TablesContent → ℕ → IpPrefix → ℕ → Option SentRoute
 missing_from tables client prefix peer =
     missing_among client peer (best_of tables client prefix) (route_from tables prefix peer)
 
--- the same where the peer is the sender that is asked for, if one is
+-- the route that a peer has left on a prefix, if the client does not get it, and if no other peer is asked for
 abbrev pub asked_from : TablesContent → ℕ → Option ℕ → IpPrefix → ℕ → Option SentRoute
 asked_from tables client from prefix peer =
     if is_asked_sender from peer then missing_from tables client prefix peer else None
 
--- the routes on a prefix that are missing to a client, of the sender that is asked for, if one is, in the order of the
--- peers
+-- The routes on a prefix that a client does not get, in the order of the peers. If a sender is asked for, they are
+-- its routes alone.
 abbrev pub missing_on : TablesContent → ℕ → Option ℕ → IpPrefix → List SentRoute
 missing_on tables client from prefix =
     filter_map (asked_from tables client from prefix) (range_with_len 0 (length tables.plan.peers))
 
--- and on all prefixes on which some peer has left a route, in ascending order of the prefixes
+-- the routes that a client does not get on all prefixes, in ascending order of the prefixes
 abbrev pub missing_of : TablesContent → ℕ → Option ℕ → List TableRow
 missing_of tables client from =
     flat_map (λ prefix. map (λ route. record { prefix = prefix; route = route }) (missing_on tables client from prefix))
     (prefixes_held tables.ribs)
 
--- these are those routes on a prefix, each with the explanation
+-- the routes on a prefix that the client does not get, each with its explanation
 pub record AreMissing (tables : TablesContent) (client : ℕ) (from : Option ℕ) (missing : MissingOn) : Type 0 where
   pub best : option_map sent_route_of missing.best ≡ best_of tables client missing.prefix
   pub routes : map (λ one. sent_route_of one.route) missing.routes.items

@@ -16,8 +16,10 @@ use Rattle.rs_survey.specs.declared.on_prefix.MissingRoute.{MissingRoute}
 use Rattle.rs_survey.specs.Missing.{missing_of, missing_on}
 use Rattle.rs_survey.specs.Summary.{removed_at}
 
--- the reason for which a client does not get a route of another peer: the first condition that fails, or else the rule
--- that refuses, or else the step of the decision process that removes it
+-- The reason why a client does not get a route of another peer. The first that applies counts:
+-- - The first condition of eligibility that the route fails.
+-- - The rule of export policy that refuses it.
+-- - The step of the decision process that removes it.
 abbrev pub reason_for : TablesContent → ℕ → TableRow → Option MissingReason
 reason_for tables client row =
     option_or (option_map (λ condition. Ineligible (kind_of condition))
@@ -26,30 +28,30 @@ reason_for tables client row =
     (option_map (λ step. Lost step)
     (removed_at (standing_of tables.plan) decision_steps (candidates_of tables client row.prefix) row.route)))
 
--- what is counted of a route that a client does not get
+-- the finding for a route that a client does not get
 abbrev pub missing_finding : TablesContent → ℕ → TableRow → Option Finding
 missing_finding tables client row = option_map (Missing row.route.peer) (reason_for tables client row)
 
--- and of those on a prefix
+-- the findings for the routes on a prefix
 abbrev pub missing_findings_on : TablesContent → ℕ → Option ℕ → IpPrefix → List Finding
 missing_findings_on tables client from prefix =
     filter_map (missing_finding tables client)
     (map (λ route. record { prefix = prefix; route = route }) (missing_on tables client from prefix))
 
--- and of the whole list of these routes
+-- the findings for all routes that the client does not get
 abbrev pub missing_findings : TablesContent → ℕ → Option ℕ → List Finding
 missing_findings tables client from = filter_map (missing_finding tables client) (missing_of tables client from)
 
--- those on a prefix, if the client gets no route to it at all
+-- the findings for the routes on a prefix, if the client gets no route on it at all
 abbrev pub unserved_findings_on : TablesContent → ℕ → Option ℕ → IpPrefix → List Finding
 unserved_findings_on tables client from prefix =
     if is_none (best_of tables client prefix) then missing_findings_on tables client from prefix else []
 
--- and those on all prefixes to which the client gets no route
+-- the findings for the routes on all prefixes on which the client gets no route
 abbrev pub unserved_findings : TablesContent → ℕ → Option ℕ → List Finding
 unserved_findings tables client from = flat_map (unserved_findings_on tables client from) (prefixes_held tables.ribs)
 
--- ---- the same by an explanation
+-- ---- the finding for a route, by its explanation
 
 abbrev pub counted_of : MissingRoute → Option Finding
 counted_of one = option_map (Missing one.route.peer) (reason_in one.explanation)

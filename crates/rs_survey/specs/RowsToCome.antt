@@ -1,4 +1,4 @@
--- The rows of a client's table that are to come, by their fields.
+-- The rows of a client's table that are still to come, by their fields.
 use Rattle.std.specs.Prelude.{◌≡◌, ℕ, List, [], Option, Some, None, MatchOption, map, refl}
 use Rattle.std.specs.Coded.{Coded, code_by, coded×, coded_ℕ, coded_option}
 use Rattle.std.specs.List.{cons_option}
@@ -14,7 +14,7 @@ use Rattle.rs_table.specs.Table.{TableRow, route_in}
 use Rattle.rs_survey.specs.Differences.{ClientOf, IsBehind, route_of}
 use Rattle.rs_survey.specs.declared.rows_to_come.RowsToCome.TheInside as rows
 
--- whose rows, behind which prefix, and which
+-- whose rows come, behind which prefix, and which rows they are
 pub record Ahead : Type 0 where
   pub whose : ClientOf
   pub last : Option IpPrefix
@@ -31,7 +31,7 @@ ahead_code =
     (coded× client_code (coded× (coded_option prefix_code) rows_code)) (λ a. (a.whose, (a.last, a.rows)))
     (λ p. record { whose = p.0; last = p.1.0; rows = p.1.1 }) (λ _. refl)
 
--- the rows behind the first one: none where the client is absent
+-- the rows that come; none if the client is absent
 abbrev pub rows_in : Option (List TableRow) → List TableRow
 rows_in rest = unwrap_or rest []
 
@@ -42,7 +42,7 @@ ahead_view fields = record {
   rows = cons_option (option_map row_of fields.first) (rows_in fields.rest);
 }
 
--- their prefixes ascend from the last one on, and they are all rows behind it
+-- the rows' prefixes ascend from the last prefix on, and no row behind it is missing
 pub record AreAll (ahead : Ahead) : Type 0 where
   pub ascending : IsStrictlySortedBy prefix_cmp (cons_option ahead.last (map (λ row. row.prefix) ahead.rows))
   pub all : (prefix : IpPrefix) → IsBehind ahead.last prefix → route_in ahead.rows prefix ≡ route_of ahead.whose prefix
@@ -61,7 +61,7 @@ GetsNoneBetween whose last next =
 abbrev pub GetsNoneBehind : ClientOf → Option IpPrefix → Type 0
 GetsNoneBehind whose last = (prefix : IpPrefix) → IsBehind last prefix → route_of whose prefix ≡ None
 
--- the first row of a client that is to come is on this prefix, or there is none
+-- the client's next row is on this prefix, or there is no next row
 pub record IsFirst (ahead : Ahead) (prefix : IpPrefix) : Type 0 where
   pub behind : IsBehind ahead.last prefix
   pub between : GetsNoneBetween ahead.whose ahead.last prefix
@@ -70,6 +70,6 @@ pub record IsFirst (ahead : Ahead) (prefix : IpPrefix) : Type 0 where
 abbrev pub IsFirstPrefix : Ahead → Option IpPrefix → Type 0
 IsFirstPrefix ahead result = MatchOption result (GetsNoneBehind ahead.whose ahead.last) (IsFirst ahead)
 
--- what a client gets on a prefix was taken, so that the rows behind it are to come
+-- the row on a prefix was taken, so that the rows behind it are to come
 abbrev pub IsTaken : Ahead → IpPrefix → Ahead → Type 0
 IsTaken old prefix new = (new.whose ≡ old.whose) × (new.last ≡ Some prefix)

@@ -1,4 +1,4 @@
--- The routes on a prefix as a summary sees them.
+-- The routes on a prefix, as a summary stores them.
 use Rattle.std.specs.Prelude.{◌≡◌, ◌<◌, ℕ, ◌&&◌, Bool, false, if◌then◌else◌, length, Option, None, Some}
 use Rattle.std.specs.Option.{option_map, option_map_or}
 use Rattle.rs_update.specs.Community.{has_community_of_in}
@@ -19,20 +19,20 @@ use Rattle.rs_survey.specs.declared.seen.Seen.{Seen}
 abbrev pub sent_of_seen : Seen → SentRoute
 sent_of_seen seen = sent_route_of seen.route
 
--- what is found of a route is true of it
+-- what is stored of a route is true
 pub record IsSeen (plan : Plan) (seen : Seen) : Type 0 where
   pub known : seen.route.peer < length plan.peers
   pub standing : seen.standing ≡ standing_of plan (sent_of_seen seen)
   pub failed : seen.failed ≡ option_map kind_of (failed_condition plan seen.route.peer seen.route.attributes.now)
   pub restricted : seen.restricted ≡ has_community_of_in seen.route.attributes.now.communities 0
 
--- a route on the prefix is a candidate of the client, which gets the best one, and keeps another out by MED
+-- the route `other` is a candidate of the client, which gets `best`, and it removes `one` by MED
 abbrev pub keeps_out : Plan → ℕ → Standing → Standing → SentRoute → Bool
 keeps_out plan client best one other =
     is_eligible plan other.peer other.attributes
     && (beats_by_med best one (standing_of plan other) && is_sent_to plan client other)
 
--- the first step at which the best one beats another, or where it is kept out
+-- the first step at which the best one beats another, or MED if another candidate removed it there
 abbrev pub step_by : Standing → Standing → Bool → Option Step
 step_by best one kept_out =
     if beats steps.Preference best one then Some steps.Preference
@@ -43,7 +43,7 @@ step_by best one kept_out =
     else if beats steps.Address best one then Some steps.Address
     else None
 
--- a route that is seen, as a candidate
+-- a stored route as a candidate
 abbrev pub candidate_of_seen : Seen → Candidate
 candidate_of_seen seen = record { peer = seen.route.peer; attributes = seen.route.attributes }
 

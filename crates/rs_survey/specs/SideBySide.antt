@@ -10,7 +10,7 @@ use Rattle.rs_survey.specs.declared.side_by_side.SideBySide.TheInside.{Inside}
 use Rattle.rs_survey.specs.Differences.{ClientOf, ToCompare, IsBehind, route_of}
 use Rattle.rs_survey.specs.RowsToCome.{GetsNoneBehind, GetsNoneBetween, client_code}
 
--- both clients' rows are to come behind one prefix
+-- the rows of both clients behind one prefix are to come
 abbrev pub side_view : Inside → ToCompare
 side_view fields = record {
   before = fields.before.whose;
@@ -29,7 +29,7 @@ to_compare_code =
 abbrev pub AreLevel : Inside → Type 0
 AreLevel fields = fields.after.last ≡ fields.before.last
 
--- on this prefix one of both clients gets a route, and between the last one and this none does
+-- on this prefix at least one of the clients gets a route, and on no prefix between the last one and this one
 pub record IsNextPrefix (both : ToCompare) (prefix : IpPrefix) : Type 0 where
   pub behind : IsBehind both.last prefix
   pub none_before : GetsNoneBetween both.before both.last prefix
@@ -39,7 +39,7 @@ pub record IsNextPrefix (both : ToCompare) (prefix : IpPrefix) : Type 0 where
 abbrev pub GetNoneBehind : ToCompare → Type 0
 GetNoneBehind both = GetsNoneBehind both.before both.last × GetsNoneBehind both.after both.last
 
--- the next such prefix comes, with both routes; none where there is none
+-- the next such prefix comes, with both routes; None if there is no such prefix
 pub record IsNextOfBoth (old new : ToCompare) (one : Choices) : Type 0 where
   pub next : IsNextPrefix old one.prefix
   pub before : option_map sent_route_of one.before ≡ route_of old.before one.prefix

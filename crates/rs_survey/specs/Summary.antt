@@ -15,27 +15,28 @@ use Rattle.rs_explain.specs.Reasons.{failed_condition, kind_of}
 use Rattle.rs_survey.specs.declared.finding.Finding.{Finding}
 use Rattle.rs_survey.specs.declared.finding.Finding.TheVariants.{Left, Ineligible, Refused, Lost, Best, Removed, Hidden}
 
--- the step that removes a member of a set: the first at which some member that the steps before left beats it
+-- the step that removes a member of a set: the first at which a member left by the earlier steps beats it
 unfoldable pub removed_at : {M : Type 0} → (M → Standing) → List Step → List M → M → Option Step
 removed_at standing [] set one = None
 removed_at standing (step ∷ later) set one =
     if list_any (λ other. beats step (standing other) (standing one)) set then Some step
     else removed_at standing later (unbeaten standing step set) one
 
--- of a route by itself: it is left, and may fail a condition of eligibility
+-- the findings for a route by itself: a peer has left it, and it may fail a condition of eligibility
 abbrev pub of_route : Plan → SentRoute → List Finding
 of_route plan route =
     Left route.peer ∷ option_to_list (option_map (λ condition. Ineligible route.peer condition)
     (option_map kind_of (failed_condition plan route.peer route.attributes)))
 
--- of a candidate of a client: the client gets it, or a step removes it
+-- the finding for a candidate of a client: the client gets it, or a step removes it
 abbrev pub of_candidate : Plan → List SentRoute → ℕ → SentRoute → List Finding
 of_candidate plan routes client route =
     if is_from route.peer (chosen_for plan client routes) then Best client route.peer ∷ []
     else Lost client route.peer ∷ option_to_list (option_map (λ step. Removed step)
     (removed_at (standing_of plan) decision_steps (candidates_among plan client routes) route))
 
--- of a route to a client, of all routes on the prefix: nothing of the client's own route nor of an ineligible one
+-- the findings for a route and a client, by all routes on the prefix; none for the client's own route or an
+-- ineligible one
 abbrev pub to_client : Plan → List SentRoute → ℕ → SentRoute → List Finding
 to_client plan routes client route =
     if (client == route.peer) || is_some (failed_condition plan route.peer route.attributes) then []
@@ -45,11 +46,12 @@ to_client plan routes client route =
 unfoldable pub for_client : Plan → List SentRoute → ℕ → List Finding
 for_client plan routes client = flat_map (to_client plan routes client) routes
 
--- the choice if there were one decision for all clients: among all eligible routes
+-- the choice if there were one decision for all clients: the one among all eligible routes
 abbrev pub shared_choice : Plan → List SentRoute → Option SentRoute
 shared_choice plan routes = choice (standing_of plan) (eligible_among plan routes)
 
--- a client gets a route, and it would get none if only that choice were sent, to those to which it is permitted
+-- The client gets a route, but would get none if there were only the one choice for all clients, and policy applied
+-- to it.
 abbrev pub is_hidden_from : Plan → List SentRoute → ℕ → Bool
 is_hidden_from plan routes client =
     is_some (chosen_for plan client routes)
@@ -64,7 +66,7 @@ is_hiding plan routes = list_any (is_hidden_from plan routes) (all_clients plan)
 abbrev pub hidden_if : Bool → List Finding
 hidden_if hides = if hides then Hidden ∷ [] else []
 
--- of the routes on one prefix
+-- the findings for the routes on one prefix
 unfoldable pub findings_among : Plan → List SentRoute → List Finding
 findings_among plan routes =
     flat_map (of_route plan) routes ++ (flat_map (for_client plan routes) (all_clients plan)
@@ -73,6 +75,6 @@ findings_among plan routes =
 unfoldable pub findings_on : TablesContent → IpPrefix → List Finding
 findings_on tables prefix = findings_among tables.plan (routes_on prefix tables.ribs)
 
--- of all prefixes on which some peer has left a route
+-- the findings for all prefixes on which some peer has left a route
 unfoldable pub findings_of : TablesContent → List Finding
 findings_of tables = flat_map (findings_on tables) (prefixes_held tables.ribs)

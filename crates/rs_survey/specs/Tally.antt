@@ -6,7 +6,7 @@ use Rattle.rs_survey.specs.declared.finding.Key.{Key}
 use Rattle.rs_survey.specs.declared.tally.Tally.TheInside.{Inside}
 use Rattle.rs_survey.specs.Findings.{IsKnown, is_same, key_of}
 
--- of how many peers findings are counted, and the counts
+-- the number of peers whose findings are counted, and the counts
 pub record TallyContent : Type 0 where
   pub peers : ℕ
   pub counts : List ℕ
@@ -19,11 +19,12 @@ tally_code =
 abbrev pub tally_view : Inside → TallyContent
 tally_view fields = record { peers = fields.peers; counts = fields.counts.items }
 
--- a digit of a place is below this: a peer's number, or that of one of eleven reasons, six steps or three conditions
+-- each digit of a place is below this: it is a peer's number, or that of one of eleven reasons, six steps or three
+-- conditions
 abbrev pub digits : ℕ → ℕ
 digits peers = peers + 11
 
--- where a finding is counted: its key is a number of three digits
+-- the place of a finding's count: its key as a number of three digits
 abbrev pub place_in : ℕ → Key → ℕ
 place_in width key = (key.kind * width + key.first) * width + key.second
 
@@ -35,11 +36,11 @@ pub record HasRoom (fields : Inside) : Type 0 where
   pub bound : fields.peers ≤ 256
   pub room : length fields.counts.items ≡ room_for (digits fields.peers)
 
--- counts stop at the greatest number of 64 bits
+-- counts do not exceed the greatest number of 64 bits
 abbrev pub most : ℕ
 most = 2 ^ 64 - 1
 
--- these are the counts of some findings: of each finding that is known, how often it is among them
+-- the counts of some findings: for each known finding, how often it is among them
 pub record IsTally (tally : TallyContent) (findings : List Finding) : Type 0 where
   pub known : All (IsKnown tally.peers) findings
   pub counted : (finding : Finding) → IsKnown tally.peers finding

@@ -67,7 +67,7 @@ pub fn count_rows(tables: &Tables, client: usize, asked: &AskedRows) -> u64
     count
 }
 
-// A count, with one more where that is asked for.
+// A count, with one more if that is asked for.
 fn counted(count: u64, asked: bool) -> u64
     ensures { result ≡ min (count + (if asked then 1 else 0)) most }
 {

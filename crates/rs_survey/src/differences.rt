@@ -16,7 +16,7 @@ use std::marker::Model;
 const ROOM: usize = 8_146;
 
 /// The prefixes on which two clients' choices differ: an iterator over them, in ascending order, each once, with both
-/// routes. Choices are the same where both get no route, or routes of senders of one name with the same attributes.
+/// routes. Choices are the same if both get no route, or routes of senders of one name with the same attributes.
 /// Since when a client gets a route is not compared. It holds no more than two routes at a time.
 #[derive(Drop)]
 pub struct Differences<'a> {
@@ -40,11 +40,11 @@ impl<'a> Model for Differences<'a> {
 }
 
 impl<'a> Differences<'a> {
-    /// The prefixes on which the choice of the peer of number `client_before` of some tables differs from that of the
-    /// peer of number `client_after` of others. None stands for a client that is absent from the tables: it gets no route,
-    /// as does the client of a number that no peer has.
+    /// The prefixes on which the choices of two clients differ: of the peer of number `client_before` in some
+    /// tables, and of the peer of number `client_after` in others. None stands for a client that is absent from the
+    /// tables. It gets no route, as does the client of a number that no peer has.
     ///
-    /// Fails where memory is refused; what it gives takes no more.
+    /// Fails if memory is refused; what it gives takes no more memory.
     pub fn new(
         alloc: Global,
         before: &'a Tables,
@@ -85,7 +85,7 @@ impl<'a> Iterator for Differences<'a> {
     }
 }
 
-// Whether two choices are the same: no route, or routes of senders of one name with the same attributes.
+// Whether two choices are equal: no route, or routes of senders of one name with the same attributes.
 fn is_same(octets: &mut Vec<u8>, before: &Exchange, after: &Exchange, one: &Choices) -> bool
     requires { 8146 ≤ vec_capacity octets.old }
     ensures same { IsTrue result → chosen before.now one.now.before ≡ chosen after.now one.now.after }
@@ -132,7 +132,7 @@ fn has_same_attributes(octets: &mut Vec<u8>, one: &Attributes, other: &Attribute
     ensures differ { IsFalse result → one.now ≡ other.now → ⊥ }
     ensures room { 8146 ≤ vec_capacity octets.new }
 {
-    // What is written of attributes tells which they are.
+    // What is written of attributes identifies them.
     the_attributes_of_a_route_read_back(one);
     the_attributes_of_a_route_read_back(other);
     octets.clear();

@@ -28,7 +28,7 @@ pub enum Finding {
     Missing(usize, MissingReason),
 }
 
-// Three numbers that tell a finding from every other one: of its kind, and what it is about.
+// Three numbers that distinguish a finding from all others: its kind, and what it is about.
 #[derive(Clone, Copy)]
 pub(crate) struct Key {
     pub(crate) kind: usize,

@@ -10,6 +10,8 @@
 //! a summary counts from: `seen` (the routes on a prefix), `removing` (the step that removes a candidate), `hidden`
 //! (what one decision for all clients would hide). On one prefix are counted: the findings of a summary (`counting`),
 //! and the routes that a client does not get, by reason (`missing_counts`). On all prefixes: `on_threads`. Then `laws`.
+//!
+//! A call that allocates fails if memory is refused.
 #![tactic(auto)]
 
 mod asked_rows;

@@ -39,8 +39,6 @@ pub struct MissingRoute<'a> {
 
 /// The routes on a prefix that the peer of number `client` does not get, each with the reason that `explain` gives:
 /// those of the sender of number `from`, or of all senders if none is given.
-///
-/// Fails where memory is refused.
 pub fn missing_on<'a>(
     alloc: Global,
     tables: &Tables,
@@ -94,7 +92,7 @@ fn explained(
     explanation
 }
 
-// The route of a peer on a prefix, if the peer is the sender that is asked for and the client does not get the route.
+// The route of a peer on a prefix, if the client does not get it and the peer is the sender that is asked for.
 fn asked_from<'a>(
     on: &PrefixRoutes<'a>,
     client: usize,
@@ -113,7 +111,7 @@ fn asked_from<'a>(
     }
 }
 
-// The route of a peer on a prefix, where the client, which gets this best one, does not get it.
+// The route of a peer on a prefix, if the client does not get it; the client gets this best one.
 fn missing_from<'a>(
     on: &PrefixRoutes<'a>,
     client: usize,

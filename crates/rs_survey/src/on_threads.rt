@@ -1,7 +1,7 @@
 //! Counts on four threads, each of which counts on a quarter of the prefixes: a summary, and the routes that a client
 //! does not get.
 //!
-//! Our choice: where a thread is refused, the calling thread counts in its place.
+//! Our choice: if a thread is refused, the calling thread counts in its place.
 
 ghost use Rattle.std.specs.Prelude.{◌≡◌, ◌<◌, IfOk, OnOk, length, map};
 ghost use Rattle.std.specs.List.{All};
@@ -38,7 +38,7 @@ enum Counted {
 /// Counts what is found on every prefix of some tables, on four threads: which routes are left and why they are not
 /// eligible, what becomes of each at each client, and on which prefixes one decision for all clients would hide routes.
 ///
-/// It holds where each prefix is, in 16 octets, and the counts of each thread. Fails where memory is refused.
+/// It holds if each prefix is, in 16 octets, and the counts of each thread.
 pub fn summary_on_threads<T: Threads + Sync>(
     rt: &T,
     alloc: Global,
@@ -54,8 +54,8 @@ pub fn summary_on_threads<T: Threads + Sync>(
 /// sender of number `from`, or of all senders if none is given. A `Finding::Missing` is made once for each such route
 /// that `missing_on` gives on every prefix.
 ///
-/// It holds where each prefix is, in 16 octets, and on each thread the counts and the routes of one prefix at a time.
-/// Fails where memory is refused.
+/// It holds if each prefix is, in 16 octets, and on each thread the counts and the routes of one prefix at a
+/// time.
 pub fn count_missing<T: Threads + Sync>(
     rt: &T,
     alloc: Global,

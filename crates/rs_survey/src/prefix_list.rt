@@ -9,8 +9,6 @@ use rs_table::{PrefixRoutes, Tables};
 use std::alloc::{AllocError, Global};
 
 /// The prefixes on which some peer has left a route, in ascending order, each once, with the routes there.
-///
-/// Fails where memory is refused.
 pub fn every_prefix<'a>(
     alloc: Global,
     tables: &'a Tables,

@@ -15,12 +15,12 @@ use std::marker::Model;
 #[derive(Drop)]
 pub(crate) struct RowsToCome<'a> {
     tables: &'a Tables,
-    // None where the client is absent from the tables.
+    // None if the client is absent from the tables.
     client: Option<usize>,
-    // The first of them, and those behind it. No rows where the client is absent.
+    // The first of them, and those behind it. No rows if the client is absent.
     first: Option<Row<'a>>,
     rest: Option<ClientRows<'a>>,
-    // The prefix behind which they are; none where they are all rows.
+    // The prefix behind which they are; none if they are all rows.
     last: Option<Prefix>,
 }
 
@@ -37,7 +37,7 @@ impl<'a> Model for RowsToCome<'a> {
 }
 
 impl<'a> RowsToCome<'a> {
-    // All rows of a client's table; none where it is absent from the tables.
+    // All rows of a client's table; none if it is absent from the tables.
     pub(crate) fn new(tables: &'a Tables, client: Option<usize>) -> RowsToCome<'a>
         ensures whose { result.whose ≡ record { tables = tables.now; client = client } }
         ensures last { result.last ≡ None }

@@ -13,7 +13,7 @@ use rs_explain::{Condition, ConditionKind, failed_condition};
 use rs_table::{PrefixRoutes, Route, Tables};
 use std::alloc::{AllocError, Global};
 
-// A route with what is asked of it.
+// A route with the values that decisions need.
 #[derive(Clone, Copy)]
 pub(crate) struct Seen<'a> {
     pub(crate) route: Route<'a>,
@@ -45,7 +45,7 @@ pub(crate) fn routes_seen<'a>(
     Ok(seen)
 }
 
-// The route of a peer, with what is asked of it.
+// The route of a peer, with the values that decisions need.
 fn route_seen<'a>(plan: &Exchange, peer: usize, route: Route<'a>) -> Seen<'a>
     requires known { peer < length plan.now.peers }
     requires own { route.peer ≡ peer }

@@ -35,7 +35,7 @@ list_any-reverse p (x ∷ xs) e =
     ∙ list_any-append p (reverse xs) (x ∷ [])
     ∙ or_from _ _ (list_any-reverse p xs parts.1) (or_from _ _ parts.0 refl)
 
--- none passes one of two tests exactly where none passes either
+-- none passes one of two tests exactly if none passes either
 none_of_both : {X : Type 0} (p q : X → Bool) (xs : List X) → list_any p xs ≡ false → list_any q xs ≡ false
     → list_any (λ x. p x || q x) xs ≡ false
 none_of_both p q [] e f = refl

@@ -28,16 +28,16 @@ use Rattle.rs_table.proofs.PrefixLemmas.{same_prefix-true, same_prefix-itself}
 use Rattle.rs_table.proofs.ValueLemmas.{absent}
 use Rattle.rs_table.proofs.tables.TablesLemmas.{tables, rib-closed}
 
--- ---- which prefixes are held
+-- ---- prefixes on which peers have left routes
 
--- a prefix that is not held is no peer's
+-- if no peer has left a route on a prefix, each peer has none there
 pub held-none : (ribs : List RibContent) (q : IpPrefix) → is_held ribs q ≡ false → (peer : ℕ)
     → fin.get (get_or ribs peer nothing_held).routes q ≡ None
 held-none [] q e peer = fin.get-empty prefix_cmp q
 held-none (rib ∷ ribs) q e zero = absent (fin.get rib.routes q) (or_parts (fin.contains_key rib.routes q) (is_held ribs q) e).0
 held-none (rib ∷ ribs) q e (suc peer) = held-none ribs q (or_parts (fin.contains_key rib.routes q) (is_held ribs q) e).1 peer
 
--- and one that is no peer's is not held
+-- if each peer has no route on a prefix, no peer has left one there
 pub none-held : (ribs : List RibContent) (q : IpPrefix) → ((peer : ℕ) → fin.get (get_or ribs peer nothing_held).routes q ≡ None)
     → is_held ribs q ≡ false
 none-held [] q none = refl
@@ -77,7 +77,7 @@ module _ (plan : Plan) (entries : Entries) (closed : List Bool) (peers : length 
         plus_zero : (n : ℕ) → 0 + n ≡ n
         plus_zero n = omega arith
 
-    -- a prefix that is not held has no cell
+    -- a prefix on which no peer has left a route has no cell
     pub cell-none : (q : IpPrefix) → is_held (ribs_from entries 0 closed) q ≡ false → cell_at entries q ≡ None
     cell-none q none = by_cell (cell_at entries q) refl
       where

@@ -1,5 +1,4 @@
--- What is held of a peer of which no change was taken, and of one of which one change more was taken: for rs_serve, rs_floor and
--- rs_glass.
+-- The content of a peer before any change, and after one more change: for rs_serve, rs_floor and rs_glass.
 use Rattle.std.proofs.Common.{◌≡◌, ◌∙◌, sym, ap, refl, Bool, true, false, ◌||◌, List, [], ◌∷◌, ◌++◌}
 use Rattle.std.specs.List.{list_any}
 use Rattle.std.specs.FinMap.{empty}
@@ -15,7 +14,7 @@ left-nothing = refl
 pub rib_left-nothing : rib_left [] ≡ nothing_held
 rib_left-nothing = ap (λ (routes : Routes). let held : RibContent = record { routes = routes; closed = false } in held) left-nothing
 
--- a test of a list with one member more, where none before passes it
+-- a test of a list with one member more, if none before passes it
 pub any-one_more : {X : Type 0} (p : X → Bool) (xs : List X) (x : X) → list_any p xs ≡ false
     → list_any p (xs ++ x ∷ []) ≡ p x
 any-one_more p xs x none =

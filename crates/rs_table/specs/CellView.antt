@@ -8,6 +8,6 @@ abbrev pub cell_view : Inside → CellContent
 cell_view fields =
     record { held = fields.held.items; bests = fields.bests.items; room = vec_capacity fields.held }
 
--- the routes ascend by peer
+-- the routes are in ascending order of their peers
 abbrev pub IsKept : Inside → Type 0
 IsKept fields = IsAscending fields.held.items

@@ -36,16 +36,16 @@ routes_from entries peer =
     (λ prefix. option_map (λ route. (prefix, route)) (route_at (routes_at entries prefix) peer))
     (map (λ entry. entry.0) entries))
 
--- each one is a cell of the plan
+-- each entry is a cell of the plan
 abbrev pub AreCells : Plan → Entries → Type 0
 AreCells plan entries = AllByRecursion (λ (entry : IpPrefix × CellContent). IsCell plan entry.1) entries
 
--- and where they keep room, each one has room for a route of every peer
+-- each entry is a cell of the plan; if cells keep room, it has room for a route of every peer
 abbrev pub AreKeptCells : Bool → Plan → Entries → Type 0
 AreKeptCells keeps_room plan entries =
     AllByRecursion (λ (entry : IpPrefix × CellContent). IsKeptCell keeps_room plan entry.1) entries
 
--- what a peer's change makes of the routes on a prefix
+-- the routes on a prefix after a change of a peer
 abbrev pub changed_routes_body : ℕ → ℕ → ChangeBody → IpPrefix → List SentRoute → List SentRoute
 changed_routes_body peer time (Announced announced attributes) prefix routes =
     if same_prefix prefix announced
@@ -59,19 +59,19 @@ changed_routes_body peer time (Closed reason) prefix routes =
 abbrev pub changed_routes : ℕ → Change → IpPrefix → List SentRoute → List SentRoute
 changed_routes peer change prefix routes = changed_routes_body peer change.time change.body prefix routes
 
--- the entries became others by a peer's change
+-- a change of a peer turns the old entries into the new ones
 abbrev pub ChangeTo : ℕ → Change → Entries → Entries → Type 0
 ChangeTo peer change before others =
     (prefix : IpPrefix) → routes_at others prefix ≡ changed_routes peer change prefix (routes_at before prefix)
 
--- a change announces a prefix on which no peer has a route
+-- the change announces a prefix on which no peer has a route
 abbrev pub IsFirstOn : Entries → ChangeBody → Type 0
 IsFirstOn entries (Announced prefix attributes) = cell_at entries prefix ≡ None
 IsFirstOn entries (Withdrawn prefix) = ⊥
 IsFirstOn entries Lost = ⊥
 IsFirstOn entries (Closed reason) = ⊥
 
--- the cells of two maps came into one
+-- the cells of two maps were put into one
 abbrev pub AreJoined : Entries → Entries → Entries → Type 0
 AreJoined one other joined =
     (prefix : IpPrefix) → cell_at joined prefix ≡ option_or (cell_at other prefix) (cell_at one prefix)

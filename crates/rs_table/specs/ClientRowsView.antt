@@ -1,4 +1,4 @@
--- The rows to come of a client's table, by the cells of the prefixes to come.
+-- The rows of a client's table that are still to come, by the cells of the prefixes to come.
 use Rattle.std.specs.Prelude.{ℕ, List, Option}
 use Rattle.std.specs.List.{filter_map}
 use Rattle.std.specs.Option.{option_map}
@@ -9,11 +9,11 @@ use Rattle.rs_table.specs.Cell.{CellContent, stored_best}
 use Rattle.rs_table.specs.Cells.{Entries}
 use Rattle.rs_table.specs.Table.{TableRow}
 
--- the row on a prefix, where there is a route
+-- the row on a prefix, if there is a route
 abbrev pub row_on : IpPrefix → Option SentRoute → Option TableRow
 row_on prefix = option_map (λ route. record { prefix = prefix; route = route })
 
--- the row on a prefix, where the client gets a route by what its cell keeps
+-- the row on a prefix, if the client gets a route by the stored number
 abbrev pub stored_row : ℕ → IpPrefix × CellContent → Option TableRow
 stored_row client entry = row_on entry.0 (stored_best entry.1 client)
 

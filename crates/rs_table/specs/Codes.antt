@@ -1,4 +1,4 @@
--- Codes of what tables hold, by which a proof tells values apart.
+-- Codes of what tables store; proofs tell values apart by their codes.
 use Rattle.std.specs.Prelude.{ℕ, Bool, List, Option, refl}
 use Rattle.std.specs.Coded.{Coded, code_by, coded×, coded_ℕ, coded_bool, coded_list, coded_option}
 use Rattle.std.specs.FinMap as map

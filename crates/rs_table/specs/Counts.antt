@@ -8,7 +8,7 @@ use Rattle.rs_table.specs.Cells.{Entries, routes_from}
 abbrev pub route_count : Entries → ℕ → ℕ
 route_count entries peer = len (routes_from entries peer)
 
--- numbers are those of the first peers
+-- the counts of the first peers are right
 pub record AreCounts (entries : Entries) (peers : ℕ) (counts : List ℕ) : Type 0 where
   pub long : length counts ≡ peers
   pub each : (peer : ℕ) → peer < peers → slice_index_or counts peer 0 ≡ route_count entries peer

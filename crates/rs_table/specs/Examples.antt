@@ -72,7 +72,7 @@ pub record LeftExamples : Type 0 where
   pub not_after_a_fault : (a : PathAttributes)
       → Leaves (announced 100 ten a ∷ at_fault ∷ []) ten (record { time = 100; attributes = a }) → ⊥
 
--- the exchange of AS 64500 at 192.0.2.1 in 192.0.2.0/24, and of peers of AS 64501 and on, at 192.0.2.11 and on
+-- the exchange of AS 64500 at 192.0.2.1 in 192.0.2.0/24; its peers have AS 64501 and on, at 192.0.2.11 and on
 abbrev pub peer_at : ℕ → ℕ → Peer
 peer_at asn address =
     record { name = []; asn = asn; address = address; id = address; preference = 100; refuse_from = [] }
@@ -90,7 +90,7 @@ four_peers = record {
       peer_at 64501 3221225995 ∷ peer_at 64502 3221225996 ∷ peer_at 64503 3221225997 ∷ peer_at 64504 3221225998 ∷ [];
 }
 
--- attributes of a path, a NEXT_HOP 192.0.2.11 and communities
+-- attributes with this path, NEXT_HOP 192.0.2.11 and these communities
 abbrev pub attributes_of : List ℕ → Option CommunityList → PathAttributes
 attributes_of path communities = record {
   origin = Igp;
@@ -118,7 +118,7 @@ hidden = record {
       ∷ after_changes [] ∷ [];
 }
 
--- the second route of the first peer holds the server's AS
+-- the second route of the first peer has the server's AS in its path
 abbrev pub ineligible : TablesContent
 ineligible = record {
   plan = four_peers;
@@ -128,7 +128,7 @@ ineligible = record {
       ∷ after_changes [] ∷ after_changes [] ∷ after_changes [] ∷ [];
 }
 
--- whose route a client gets
+-- the peer whose route a client gets
 abbrev pub winner : TablesContent → ℕ → Option ℕ
 winner tables client = option_map (λ route. route.peer) (best_of tables client documentation)
 

@@ -1,4 +1,5 @@
--- Changes gathered in lists, one for each first octet of a prefix, and the routes that they leave (our choice).
+-- Changes that are collected in lists, one list for each first octet of a prefix, and the routes that they leave
+-- (our choice).
 use Rattle.std.specs.Prelude.{◌≡◌, ◌≤◌, ◌/◌, ◌^◌, ℕ, ◌==◌, Bool, true, false, ◌&&◌, if◌then◌else◌, List, [], All}
 use Rattle.std.specs.Prelude.{Option, None, length, map, reverse, slice_get, slice_index_or}
 use Rattle.std.specs.List.{find, filter_map, flat_map}
@@ -17,25 +18,25 @@ use Rattle.rs_table.specs.Left.{RouteLeft, Routes, bears_on, body_route, drops_r
 abbrev pub first_octet : IpPrefix → ℕ
 first_octet prefix = prefix.address / 2 ^ 24
 
--- an entry is of a peer, and on a prefix
+-- an entry is of this peer and on this prefix
 abbrev pub is_of : ℕ → IpPrefix → Logged → Bool
 is_of peer prefix entry = entry.peer == peer && same_prefix prefix entry.prefix
 
--- its peer has lost as many sessions as when it came: else it is void
+-- an entry is current if its peer has lost no session since the entry came; otherwise it is void
 abbrev pub is_current : List ℕ → Logged → Bool
 is_current losses entry = option_map_or (λ lost. lost == entry.losses) (slice_get losses entry.peer) false
 
 abbrev pub counts : List ℕ → ℕ → IpPrefix → Logged → Bool
 counts losses peer prefix entry = is_of peer prefix entry && is_current losses entry
 
--- the route that an entry announces; none where it is a withdrawal
+-- the route that an entry announces; None if it is a withdrawal
 abbrev pub entry_route : Logged → Option RouteLeft
 entry_route entry = option_map (λ attributes. record { time = entry.time; attributes = attributes }) entry.attributes
 
 abbrev pub announces : Logged → Bool
 announces entry = is_some entry.attributes
 
--- a route that its peer has left by an entry
+-- an entry by which its peer has left a route
 abbrev pub IsAnnounced : List ℕ → Logged → Type 0
 IsAnnounced losses entry = (is_current losses entry ≡ true) × (announces entry ≡ true)
 
@@ -43,8 +44,8 @@ IsAnnounced losses entry = (is_current losses entry ≡ true) × (announces entr
 abbrev pub logged_cmp : Logged → Logged → Ordering
 logged_cmp one other = ordering_then (prefix_cmp one.prefix other.prefix) (nat_cmp one.peer other.peer)
 
--- what a list leaves a peer on a prefix is what the last of its entries says that is of both and not void; where there
--- is no such entry, it is what was left before
+-- What a list of entries leaves a peer on a prefix. The last entry of this peer and prefix that is not void decides.
+-- If there is no such entry, the route from before stays.
 abbrev pub left_over : List ℕ → List Logged → ℕ → IpPrefix → Option RouteLeft → Option RouteLeft
 left_over losses entries peer prefix before =
     option_map_or entry_route (find (counts losses peer prefix) (reverse entries)) before
@@ -52,14 +53,14 @@ left_over losses entries peer prefix before =
 abbrev pub left_in : List ℕ → List Logged → ℕ → IpPrefix → Option RouteLeft
 left_in losses entries peer prefix = left_over losses entries peer prefix None
 
--- what the lists leave: a prefix has one list, that of its first octet
+-- all lists; below, the route that they leave a peer on a prefix: only the list of the prefix's first octet counts
 abbrev pub lists_of : List Log → List (List Logged)
 lists_of logs = map (λ log. log.entries.items) logs
 
 abbrev pub left_at : List ℕ → List Log → ℕ → IpPrefix → Option RouteLeft
 left_at losses logs peer prefix = left_in losses (slice_index_or (lists_of logs) (first_octet prefix) []) peer prefix
 
--- the same of all prefixes that the lists name
+-- the prefixes that lists have entries on; below, the routes that the lists leave a peer on all these prefixes
 abbrev pub prefixes_in : List (List Logged) → List IpPrefix
 prefixes_in lists = flat_map (λ entries. map (λ entry. entry.prefix) entries) lists
 
@@ -68,7 +69,8 @@ routes_gathered losses logs peer =
     from_entries (filter_map (λ prefix. option_map (λ route. (prefix, route)) (left_at losses logs peer prefix))
     (prefixes_in (lists_of logs)))
 
--- an entry of a list is on prefixes of its first octet, and came after no more losses than its peer has now
+-- an entry of the list of an octet: its prefix begins with the octet, and it does not count more losses than its
+-- peer has now
 pub record IsEntryOf (losses : List ℕ) (octet : ℕ) (entry : Logged) : Type 0 where
   pub octet_is : first_octet entry.prefix ≡ octet
   pub losses_are : entry.losses ≤ slice_index_or losses entry.peer 0
@@ -77,20 +79,20 @@ pub record AreLogs (losses : List ℕ) (logs : List Log) : Type 0 where
   pub count : length logs ≡ 256
   pub entries : (octet : ℕ) → All (IsEntryOf losses octet) (slice_index_or (lists_of logs) octet [])
 
--- what a change of a peer makes of what it had left on a prefix
+-- the route that a peer has left on a prefix after one of its changes
 abbrev pub left_after : Change → IpPrefix → Option RouteLeft → Option RouteLeft
 left_after change prefix before =
     if drops_routes change then None
     else if bears_on prefix change then body_route change.time change.body else before
 
--- lists became others by a change of a peer
+-- a change of a peer turns the old lists into the new ones
 abbrev pub GathersTo : ℕ → Change → List ℕ → List Log → List ℕ → List Log → Type 0
 GathersTo peer change losses logs losses_then logs_then =
     (other : ℕ) (prefix : IpPrefix) → left_at losses_then logs_then other prefix
     ≡ (if peer == other then left_after change prefix (left_at losses logs other prefix)
     else left_at losses logs other prefix)
 
--- lists became others by an entry
+-- an entry turns the old lists into the new ones
 abbrev pub IsAdded : List ℕ → Logged → List Log → List Log → Type 0
 IsAdded losses entry logs logs_then =
     (peer : ℕ) (prefix : IpPrefix) → left_at losses logs_then peer prefix

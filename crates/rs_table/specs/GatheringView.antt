@@ -1,4 +1,5 @@
--- What was gathered, by the fields: the routes that the lists leave each peer, and whether its session closed.
+-- The content of collected changes, by their fields: the routes that the lists leave each peer, and whether its
+-- session closed.
 use Rattle.std.specs.Prelude.{◌≡◌, length}
 use Rattle.rs_table.specs.declared.gathering.Gathering.TheInside.{Inside}
 use Rattle.rs_table.specs.Content.{TablesContent}
@@ -11,7 +12,7 @@ gathering_view fields = record {
   ribs = ribs_by (routes_gathered fields.losses.items fields.logs.items) 0 fields.closed.items;
 }
 
--- each peer of the plan is open or closed, has its count of losses, and the lists are as they are kept
+-- each peer of the plan is open or closed and has a count of losses, and the lists are in order
 pub record IsGathering (fields : Inside) : Type 0 where
   pub peers : length fields.closed.items ≡ length fields.plan.value.peers
   pub losses : length fields.losses.items ≡ length fields.plan.value.peers

@@ -10,20 +10,20 @@ use Rattle.rs_table.specs.Content.{TablesContent}
 use Rattle.rs_table.specs.Gathered.{counts, entry_route, left_in}
 use Rattle.rs_table.specs.Table.{TableRow, IsTable, table_of}
 
--- what a list leaves by its last announcements is what is computed
+-- the routes that a list leaves are exactly those that are computed
 abbrev pub LeftByLastChanges : Type 0
 LeftByLastChanges =
     (changes : List Change) (prefix : IpPrefix) (route : RouteLeft)
     → Leaves changes prefix route ↔ (get (left changes) prefix ≡ Some route)
 
--- what a list with one more change leaves is one step from what the list leaves
+-- the routes left after one more change are one step from the routes left before
 abbrev pub LeftAfterOneMore : Type 0
 LeftAfterOneMore =
     (changes : List Change) (change : Change) → HasNoClose changes
     → left (changes ++ change ∷ []) ≡ after (left changes) change
 
--- a part of a list leaves on a prefix what the list leaves there, where the part has every change on that
--- prefix and every change on no prefix: those are losses and closes
+-- A part of a list leaves the same route on a prefix as the whole list, if the part keeps enough changes. It must
+-- have every change on the prefix, and all losses and closes.
 abbrev pub LeftByPart : Type 0
 LeftByPart =
     (keeps : Change → Bool) (prefix : IpPrefix)
@@ -32,14 +32,14 @@ LeftByPart =
     → (changes : List Change) (route : RouteLeft)
     → Leaves changes prefix route ↔ Leaves (filter keeps changes) prefix route
 
--- there is one table of a client, the one that is computed
+-- a client has exactly one table, and it is the computed one
 abbrev pub TableIsComputed : Type 0
 TableIsComputed =
     (tables : TablesContent) (client : ℕ) (rows : List TableRow)
     → IsTable tables client rows ↔ (rows ≡ table_of tables client)
 
--- where an entry of a list counts for a peer and a prefix, and none behind it does, the list leaves there what that
--- entry says; where none counts, it leaves nothing
+-- The last entry that counts for a peer and a prefix decides what a list leaves there. If no entry counts, the list
+-- leaves nothing.
 abbrev pub LeftByLastEntries : Type 0
 LeftByLastEntries =
     (losses : List ℕ) (peer : ℕ) (prefix : IpPrefix)

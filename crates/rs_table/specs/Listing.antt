@@ -10,8 +10,7 @@ use Rattle.rs_table.specs.Content.{RibContent}
 abbrev pub is_held : List RibContent → IpPrefix → Bool
 is_held ribs prefix = list_any (λ rib. contains_key rib.routes prefix) ribs
 
--- a change is the first of its prefix where it announces a prefix on which no peer has left a route: it alone
--- can want memory
+-- The change announces a prefix on which no peer has left a route. Only such a change needs memory.
 abbrev pub IsFirstBody : List RibContent → ChangeBody → Type 0
 IsFirstBody ribs (Announced prefix attributes) = is_held ribs prefix ≡ false
 IsFirstBody ribs (Withdrawn prefix) = ⊥

@@ -7,7 +7,7 @@ use Rattle.rs_table.specs.declared.logged.Packed.{Packed}
 use Rattle.rs_table.specs.declared.logged.Packed.TheVariants.{Announced, Withdrawn}
 use Rattle.rs_table.specs.Logged.{Logged}
 
--- by the fields in the order in which they are packed
+-- an entry by its fields, in the order in which they are packed
 abbrev pub logged_by : ℕ → ℕ → ℕ → ℕ → ℕ → Option PathAttributes → Logged
 logged_by len peer address time losses attributes = record {
   prefix = record { address = address; len = len };
@@ -24,7 +24,7 @@ unpacked (Withdrawn len peer address time losses) = logged_by len peer address t
 abbrev pub logged_view : Inside → Logged
 logged_view fields = unpacked fields.change
 
--- the bits of its address past the length are clear
+-- the bits of the address behind the length of the prefix are 0
 pub record IsLogged (fields : Inside) : Type 0 where
   pub bound : (logged_view fields).prefix.len ≤ 32
   pub clear : network_of (logged_view fields).prefix.address (logged_view fields).prefix.len

@@ -1,4 +1,4 @@
--- The routes on one prefix, and what each client gets of them (RFC 4271, section 9.1; RFC 7947, section 2.3).
+-- The routes on one prefix, and the route that each client gets (RFC 4271, section 9.1; RFC 7947, section 2.3).
 use Rattle.std.specs.Prelude.{◌≡◌, ◌<◌, ℕ, List, Option, length}
 use Rattle.std.specs.Coded.{Coded, coded×, coded_list}
 use Rattle.std.specs.Option.{option_map}
@@ -11,14 +11,14 @@ use Rattle.rs_table.specs.Codes.{prefix_code}
 use Rattle.rs_table.specs.Content.{TablesContent}
 use Rattle.rs_table.specs.Table.{best_of, route_from, sent_by}
 
--- a prefix with what is kept of it
+-- a prefix with its cell
 abbrev pub entry_of : PrefixRoutes → IpPrefix × CellContent
 entry_of routes = (routes.prefix, routes.cell.now)
 
 abbrev pub entries_code : Coded (List (IpPrefix × CellContent))
 entries_code = coded_list (coded× prefix_code cell_code)
 
--- the route of a peer there, and the one that a client gets
+-- the route of a peer on the prefix, and below, the route that a client gets
 abbrev pub route_on : IpPrefix × CellContent → ℕ → Option SentRoute
 route_on entry peer = option_map (sent_by peer) (route_at (routes_in entry.1) peer)
 

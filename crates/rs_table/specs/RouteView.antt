@@ -1,4 +1,4 @@
--- Routes and rows, without where their attributes lie in memory.
+-- Routes and rows as values.
 use Rattle.rs_table.specs.declared.route.Route.{Route}
 use Rattle.rs_table.specs.declared.route.Row.{Row}
 use Rattle.rs_table.specs.Table.{TableRow}

@@ -1,7 +1,7 @@
--- What each client gets (RFC 4271, section 9.1; RFC 7947, section 2.3.2.1).
+-- The route that each client gets on each prefix (RFC 4271, section 9.1; RFC 7947, section 2.3.2.1).
 --
--- Export policy comes before the decision, and each client has a decision of its own: a route that policy
--- refuses to a client hides no other route from it.
+-- Export policy comes before the decision, and each client has a decision of its own. So a route that policy refuses
+-- to a client hides no other route from that client.
 use Rattle.std.specs.Prelude.{◌≡◌, ℕ, ◌==◌, Bool, false, not, if◌then◌else◌, List, map, Option, None, Some}
 use Rattle.std.specs.List.{enumerate_from, filter_map, flat_map}
 use Rattle.std.specs.List.Sorted.{IsStrictlySortedBy}
@@ -18,7 +18,7 @@ use Rattle.rs_table.specs.declared.why.Why.TheVariants.{Own, Absent, Ineligible,
 use Rattle.rs_table.specs.Left.{RouteLeft}
 use Rattle.rs_table.specs.Content.{RibContent, TablesContent, rib_of}
 
--- a route that is left, as one that a peer sent
+-- a route that a peer has left, together with the peer's number
 abbrev pub sent_by : ℕ → RouteLeft → SentRoute
 sent_by peer route = record { peer = peer; time = route.time; attributes = route.attributes }
 
@@ -31,14 +31,15 @@ abbrev pub routes_on : IpPrefix → List RibContent → List SentRoute
 routes_on prefix ribs =
     filter_map (λ (peer, rib). option_map (sent_by peer) (get rib.routes prefix)) (enumerate_from 0 ribs)
 
--- the candidates of a client for a prefix, and the route that it gets there: the choice among them
+-- the candidates of a client for a prefix, and below, its best path: the choice among the candidates
 abbrev pub candidates_of : TablesContent → ℕ → IpPrefix → List SentRoute
 candidates_of tables client prefix = candidates_among tables.plan client (routes_on prefix tables.ribs)
 
+-- the best path of a client for a prefix: the choice among its candidates
 abbrev pub best_of : TablesContent → ℕ → IpPrefix → Option SentRoute
 best_of tables client prefix = chosen_for tables.plan client (routes_on prefix tables.ribs)
 
--- a row of a client's table
+-- a row of a client's table: a prefix and a route
 pub record TableRow : Type 0 where
   pub prefix : IpPrefix
   pub route : SentRoute
@@ -46,27 +47,27 @@ pub record TableRow : Type 0 where
 abbrev pub entry_of_row : TableRow → IpPrefix × SentRoute
 entry_of_row row = (row.prefix, row.route)
 
--- the route that a list of rows has on a prefix
+-- the route that rows have on a prefix
 abbrev pub route_in : List TableRow → IpPrefix → Option SentRoute
 route_in rows prefix = find prefix_cmp prefix (map entry_of_row rows)
 
--- what it means: rows are a client's table where their prefixes ascend, each once, and on each prefix stands
--- what the client gets
+-- Rows are the table of a client if two things are true. Their prefixes ascend, so that each stands there once. On
+-- each prefix they have the route that the client gets, or none if it gets none.
 pub record IsTable (tables : TablesContent) (client : ℕ) (rows : List TableRow) : Type 0 where
   pub ascending : IsStrictlySortedBy prefix_cmp (map (λ row. row.prefix) rows)
   pub best : (prefix : IpPrefix) → route_in rows prefix ≡ best_of tables client prefix
 
--- the same computed: the prefixes on which some peer has left a route, ascending, each once
+-- the prefixes on which some peer has left a route, in ascending order, each once
 abbrev pub prefixes_held : List RibContent → List IpPrefix
 prefixes_held ribs = keys (from_entries {R = prefix_cmp} (flat_map (λ rib. entries rib.routes) ribs))
 
--- and on each of them what the client gets, where it gets a route
+-- the table of a client, computed: all prefixes on which the client gets a route, each with this route
 unfoldable pub table_of : TablesContent → ℕ → List TableRow
 table_of tables client =
     filter_map (λ prefix. option_map (λ route. record { prefix = prefix; route = route })
     (best_of tables client prefix)) (prefixes_held tables.ribs)
 
--- why a client has the route of a peer on a prefix, or not: the first case that holds
+-- Why the client gets the route of a peer on a prefix, or why not. The first of these reasons that applies is given.
 abbrev pub is_from : ℕ → Option SentRoute → Bool
 is_from peer best = option_map_or (λ route. route.peer == peer) best false
 

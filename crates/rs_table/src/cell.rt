@@ -24,8 +24,8 @@ use std::marker::Model;
 // would make each cell larger, and with it the map.
 const CLIENTS_INSIDE: usize = 16;
 
-// The routes on a prefix, in ascending order of their peers, and for each client the number of the peer whose
-// route it gets: its own number where it gets none, since no client gets a route of its own.
+// The routes on a prefix, in ascending order of their peers. For each client it has the number of the peer whose
+// route the client gets. The number is the client's own if it gets none, since no client gets a route of its own.
 #[derive(Drop)]
 pub(crate) struct Cell {
     held: Vec<HeldRoute>,
@@ -106,7 +106,7 @@ impl Cell {
         put(&mut self.held, route);
     }
 
-    // Decides for every client, where there is a route. Answers whether there is one.
+    // Decides for every client, if there is a route. Answers whether there is one.
     pub(crate) fn settle(&mut self, plan: &Exchange) -> bool
         requires { IsUndecided plan.now self.old }
         ensures routes { routes_in self.new ≡ routes_in self.old }
@@ -131,7 +131,7 @@ impl Cell {
         self.decide(plan);
     }
 
-    // Removes a peer's route, if it has one; answers whether a route is left. Where the peer has none, nothing is
+    // Removes a peer's route, if it has one; answers whether a route is left. If the peer has none, nothing is
     // decided.
     pub(crate) fn withdraw(&mut self, plan: &Exchange, peer: usize) -> bool
         requires { IsKeptCell true plan.now self.old }
@@ -194,7 +194,7 @@ impl Cell {
     }
 }
 
-// Puts a route in the place of any that its peer has, where there is room for all routes.
+// Puts a route in the place of any that its peer has, if there is room for all routes.
 fn put(held: &mut Vec<HeldRoute>, route: HeldRoute)
     requires ascending { IsAscending held.old.items }
     requires room { length (with_one (λ one. one.peer) held.old.items route) ≤ vec_capacity held.old }
@@ -225,7 +225,7 @@ fn take_out(held: &mut Vec<HeldRoute>, peer: usize) -> bool
     true
 }
 
-// How many routes stand before that of a peer, or before the place where it would stand.
+// How many routes stand before that of a peer, or before the place for one.
 fn place(held: &[HeldRoute], peer: usize) -> usize
     requires { IsAscending held.now }
     ensures place { result ≡ place_of (λ one. one.peer) held.now peer }

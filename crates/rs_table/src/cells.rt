@@ -55,7 +55,7 @@ pub(crate) fn change(
     }
 }
 
-// Puts a route into the cell of a prefix, which is made where there is none. Refused, nothing changed.
+// Puts a route into the cell of a prefix, which is made if there is none. Refused, nothing changed.
 fn announce(
     alloc: Global,
     cells: &mut BTreeMap<Prefix, Cell>,

@@ -17,7 +17,7 @@ use rs_types::Prefix;
 use std::alloc::{AllocError, Global};
 use std::collections::BTreeMap;
 
-// Of each peer, how many routes it has. Nothing is counted where no session is open any more, since no change can
+// Of each peer, how many routes it has. Nothing is counted if no session is open any more, since no change can
 // come there.
 pub(crate) fn count_all(
     alloc: Global,

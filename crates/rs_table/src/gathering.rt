@@ -60,8 +60,6 @@ impl Model for Gathering {
 impl Gathering {
     /// Begins before any change: no peer of the plan has a route, and all sessions are open. A list with fewer entries
     /// than `few` is not compacted.
-    ///
-    /// Fails where memory is refused.
     pub fn of_plan(alloc: Global, plan: Arc<Exchange>, few: usize) -> Result<Gathering, AllocError>
         ensures plan { IfOk result (λ gathering. gathering.plan ≡ plan.value) }
         ensures empty { IfOk result (λ gathering. (peer : ℕ) → rib_of gathering peer ≡ nothing_held) }
@@ -82,8 +80,6 @@ impl Gathering {
 
     /// Begins with tables of which no peer has a route yet. A list with fewer entries than `few` is not
     /// compacted.
-    ///
-    /// Fails where memory is refused.
     pub fn new(tables: Tables, few: usize) -> Result<Gathering, AllocError>
         requires { (peer : ℕ) → rib_of tables peer ≡ nothing_held }
         ensures plan { IfOk result (λ gathering. gathering.plan ≡ tables.plan) }
@@ -114,7 +110,7 @@ impl Gathering {
         self.plan.count()
     }
 
-    /// Whether the session of the peer of number `peer` closed; false where there is no such peer.
+    /// Whether the session of the peer of number `peer` closed; false if there is no such peer.
     pub fn is_closed(&self, peer: usize) -> bool
         ensures { result ≡ (rib_of self.now peer).closed }
     {
@@ -126,8 +122,8 @@ impl Gathering {
 
     /// Takes the next change of the peer of number `peer`, as `Tables::apply` does.
     ///
-    /// Fails where memory is refused, and where a session is lost for the 2^32nd time. Nothing is said then of
-    /// what is gathered.
+    /// Fails if memory is refused, or if a session is lost for the 2^32nd time. After a failure nothing is promised
+    /// about what was collected.
     pub fn receive(&mut self, peer: usize, word: Word) -> Result<(), AllocError>
         requires known { peer < length self.old.plan.peers }
         requires open { (rib_of self.old peer).closed ≡ false }
@@ -148,10 +144,8 @@ impl Gathering {
         Ok(())
     }
 
-    /// The tables of what was gathered. Each client's choice on each prefix is made here, once. Where no session is
+    /// The tables of what was gathered. Each client's choice on each prefix is made here, once. If no session is
     /// open any more, a prefix takes no more room than its routes.
-    ///
-    /// Fails where memory is refused.
     pub fn settle(self) -> Result<Tables, AllocError>
         ensures { IfOk result (λ tables. tables ≡ self) }
     {

@@ -5,7 +5,7 @@ ghost use Rattle.rs_table.specs.Laws.{LeftAfterOneMore, LeftByLastChanges, LeftB
 ghost use Rattle.rs_table.specs.Laws.{TableIsComputed};
 
 /// A list of changes leaves the routes that were announced last on their prefix and since the session was last lost
-/// (RFC 4271, section 9.1). It leaves none where the list closes for another reason than the end of its file.
+/// (RFC 4271, section 9.1). It leaves none if the list closes for another reason than the end of its file.
 pub fn left_by_last_changes()
     ensures { LeftByLastChanges }
 {}

@@ -12,6 +12,8 @@
 //! `rs_choice` decides who gets which route on it.
 //! Below `gathering` are `logged` (a change in a list), `log` (a list), `read_ahead` (a list with its attributes read
 //! ahead) and `settling` (the cells of such lists).
+//!
+//! A call that allocates fails if memory is refused.
 #![tactic(auto)]
 
 mod cell;

@@ -12,7 +12,7 @@ use std::alloc::AllocError;
 
 impl Tables {
     /// The rows of the table of the peer of number `client`, one after another: one for each prefix on which
-    /// it gets a route, with what `best` says of it, in ascending order of prefix, each once. No row where
+    /// it gets a route, with what `best` says of it, in ascending order of prefix, each once. No row if
     /// there is no such peer. It takes no memory.
     pub fn iter_rows(&self, client: usize) -> ClientRows<'_>
         ensures table { IsTable self.now client result }
@@ -28,8 +28,6 @@ impl Tables {
     }
 
     /// The rows that `iter_rows` gives, in a list.
-    ///
-    /// Fails where memory is refused.
     pub fn rows<'a>(&'a self, client: usize) -> Result<Vec<Row<'a>>, AllocError>
         ensures table { IfOk result (λ rows. IsTable self.now client (map row_of rows.items)) }
         ensures known { IfOk result (λ rows. All (λ row. row.route.peer < length self.now.plan.peers)

@@ -27,7 +27,7 @@ pub(crate) struct Log {
 }
 
 impl Log {
-    // Takes one change more. Refused memory, nothing that counts is lost but the change.
+    // Takes one more change. If memory is refused, only this change is lost.
     pub(crate) fn push(&mut self, entry: LoggedChange, losses: &[u32]) -> Result<(), AllocError>
         ensures left { OnOk result ((peer : ℕ) → (prefix : IpPrefix)
             → left_in losses.now self.new.entries.items peer prefix
@@ -42,7 +42,7 @@ impl Log {
         Ok(())
     }
 
-    // Compacts the list where it has as many entries as its limit. Its limit is then twice what is left.
+    // Compacts the list if it has as many entries as its limit. Its limit is then twice what is left.
     fn make_room(&mut self, losses: &[u32]) -> Result<(), AllocError>
         ensures left { OnOk result ((peer : ℕ) → (prefix : IpPrefix)
             → left_in losses.now self.new.entries.items peer prefix
@@ -58,8 +58,8 @@ impl Log {
     }
 }
 
-// Leaves of a list the last entry of each peer and prefix, unless its peer has lost a session since or it is a
-// withdrawal; in ascending order of prefix, and then of peer.
+// Leaves in a list the last entry of each peer and prefix. An entry is dropped if it is a withdrawal, or if its peer
+// has lost a session since. The list is then in ascending order of prefix, and within a prefix of peer.
 pub(crate) fn compact(entries: &mut Vec<LoggedChange>, losses: &[u32]) -> Result<(), AllocError>
     ensures left { OnOk result ((peer : ℕ) → (prefix : IpPrefix)
         → left_in losses.now entries.new.items peer prefix ≡ left_in losses.now entries.old.items peer prefix) }

@@ -54,7 +54,7 @@ impl Model for LoggedChange {
 }
 
 impl LoggedChange {
-    /// A change at `time` of a peer that had lost so many sessions when it came: an announcement where there are
+    /// A change at `time` of a peer that had lost so many sessions when it came: an announcement if there are
     /// attributes, else a withdrawal.
     pub(crate) fn new(
         prefix: Prefix,

@@ -7,11 +7,10 @@ use crate::tables::Tables;
 use std::alloc::AllocError;
 
 impl Tables {
-    /// Makes parts one: tables over one plan, where no two have a route on the same prefix and the same peers
-    /// are closed in all. Each peer has left the routes that it has left in the parts. Nothing is decided
-    /// anew.
+    /// Merges parts into the tables of the whole exchange. The parts have one plan, no prefix in common, and the
+    /// same closed sessions. Each peer has the routes that it has in the parts. Nothing is decided anew.
     ///
-    /// Refused memory, the parts are dropped.
+    /// If memory is refused, the parts are dropped.
     pub fn merge(parts: Vec<Tables>) -> Result<Tables, AllocError>
         requires some { 0 < length parts.items }
         requires parts { AllPairs AreParts parts.items }

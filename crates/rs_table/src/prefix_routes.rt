@@ -19,7 +19,7 @@ pub struct PrefixRoutes<'a> {
 }
 
 impl<'a> PrefixRoutes<'a> {
-    /// The route that the peer of number `peer` has left on the prefix, eligible or not; none where it has none.
+    /// The route that the peer of number `peer` has left on the prefix, eligible or not; none if it has none.
     pub fn route(&self, peer: usize) -> Option<Route<'a>>
         ensures { option_map sent_route_of result ≡ route_on (entry_of self.now) peer }
     {

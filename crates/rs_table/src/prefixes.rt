@@ -53,7 +53,7 @@ impl<'a> Iterator for Prefixes<'a> {
 }
 
 impl Tables {
-    /// The routes on one prefix, and what each client gets of them; none where no peer has left a route there. It takes
+    /// The routes on one prefix, and what each client gets of them; none if no peer has left a route there. It takes
     /// no memory.
     pub fn on_prefix(&self, prefix: Prefix) -> Option<PrefixRoutes<'_>>
         ensures some { IfSome result (λ on. (on.prefix ≡ prefix) × AreRoutesOf self.now (entry_of on)) }

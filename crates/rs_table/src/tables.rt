@@ -63,8 +63,6 @@ impl Model for Tables {
 
 impl Tables {
     /// The tables of an exchange before any change: no peer has a route, and all sessions are open.
-    ///
-    /// Fails where memory is refused.
     pub fn new(alloc: Global, plan: Arc<Exchange>) -> Result<Tables, AllocError>
         ensures plan { IfOk result (λ tables. tables.plan ≡ plan.value) }
         ensures empty { IfOk result (λ tables. (peer : ℕ) → rib_of tables peer ≡ nothing_held) }
@@ -83,7 +81,7 @@ impl Tables {
         })
     }
 
-    /// Whether the session of the peer of number `peer` closed; false where there is no such peer.
+    /// Whether the session of the peer of number `peer` closed; false if there is no such peer.
     pub fn is_closed(&self, peer: usize) -> bool
         ensures { result ≡ (rib_of self.now peer).closed }
     {
@@ -136,14 +134,14 @@ impl Tables {
 
     /// The route that the peer of number `client` gets on a prefix. The decision process chooses it among the routes
     /// that other peers have left there. They are the eligible ones that export policy permits to the client. None
-    /// where there is no such route or no such peer. It takes no memory.
+    /// if there is no such route or no such peer. It takes no memory.
     pub fn best(&self, client: usize, prefix: Prefix) -> Option<Route<'_>>
         ensures { option_map sent_route_of result ≡ best_of self.now client prefix }
     {
         self.cells.get(&prefix)?.best(client)
     }
 
-    /// The route that the peer of number `peer` has left on a prefix, eligible or not; none where it has
+    /// The route that the peer of number `peer` has left on a prefix, eligible or not; none if it has
     /// none. It takes no memory.
     pub fn route(&self, peer: usize, prefix: Prefix) -> Option<Route<'_>>
         requires { peer < length self.now.plan.peers }
@@ -152,8 +150,8 @@ impl Tables {
         self.cells.get(&prefix)?.route(peer)
     }
 
-    // The cells: where a prefix has none, no peer has left a route, and else each client gets what its cell
-    // keeps for it.
+    // The cells. If a prefix has no cell, no peer has left a route on it. Otherwise each client gets the route that
+    // the cell says.
     pub(crate) fn cells(&self) -> &BTreeMap<Prefix, Cell>
         ensures bests { (client : ℕ) → (prefix : IpPrefix) → (cell : CellContent)
             → cell_at result.now.entries prefix ≡ Some cell → stored_best cell client ≡ best_of self.now client prefix }

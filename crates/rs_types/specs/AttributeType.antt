@@ -1,4 +1,5 @@
--- The types of path attributes, a row each (RFC 4271, sections 4.3, 5 and 6.3; RFC 1997; RFC 4760; RFC 6793; RFC 7606).
+-- The types of path attributes, one row for each (RFC 4271, sections 4.3, 5 and 6.3; RFC 1997; RFC 4760; RFC 6793;
+-- RFC 7606).
 use Rattle.std.specs.Prelude.{ℕ, ◌%◌, Bool, true, false, not, ◌&&◌, ◌==◌, if◌then◌else◌}
 use Rattle.std.specs.Prelude.{bit_and}
 use Rattle.rs_types.specs.declared.attribute_type.AttributeType.{AttributeType}
@@ -18,7 +19,7 @@ use Rattle.rs_types.specs.declared.fault.UpdateFault.TheVariants.{MalformedAttri
 use Rattle.rs_types.specs.declared.handling.Handling.{Handling}
 use Rattle.rs_types.specs.declared.handling.Handling.TheVariants.{AttributeDiscard, TreatAsWithdraw, SessionReset}
 
--- the type with a number
+-- the attribute type that has a type code
 abbrev pub type_of : ℕ → AttributeType
 type_of number =
     if number == 1 then Origin
@@ -35,9 +36,9 @@ type_of number =
     else if number == 18 then As4Aggregator
     else Unrecognized
 
--- a row: what the flags must say, how many octets a value has, what a value must be, and what RFC 7606 does
--- where the length is at fault (section 7) and where the type stood earlier, even where that one was
--- discarded (section 3, g)
+-- A row says what the flags must be, how many octets a value has, and what a value must be. It also says what RFC
+-- 7606 does for a wrong length (section 7), and for an attribute whose type stood earlier (section 3, g). The latter
+-- counts even if the earlier attribute was discarded.
 abbrev pub row : WantedFlags → Lengths → ValueTest → Handling → Handling → Row
 row flags lengths value at_length again =
     record { flags = flags; lengths = lengths; value = value; at_length = at_length; again = again }
@@ -45,6 +46,7 @@ row flags lengths value at_length again =
 abbrev RESET : Handling
 RESET = SessionReset MalformedAttributeList
 
+-- the row of each type
 abbrev pub row_of : AttributeType → Row
 row_of Origin = row WellKnown (Exactly 1) OriginCode TreatAsWithdraw AttributeDiscard
 row_of AsPath = row WellKnown AnyLength Segments TreatAsWithdraw AttributeDiscard
@@ -63,6 +65,7 @@ row_of Unrecognized = row Optional AnyLength AnyValue TreatAsWithdraw AttributeD
 abbrev pub flags_of : AttributeType → WantedFlags
 flags_of kind = (row_of kind).flags
 
+-- whether no row names the type
 abbrev pub is_unrecognized : AttributeType → Bool
 is_unrecognized Unrecognized = true
 is_unrecognized kind = false
@@ -80,7 +83,7 @@ is_partial flags = not (bit_and flags 0x20 == 0)
 abbrev pub is_extended : ℕ → Bool
 is_extended flags = not (bit_and flags 0x10 == 0)
 
--- whether the Optional and the Transitive bit are as they must be; the Partial bit is never looked at
+-- whether the Optional and the Transitive bit are as they must be; the Partial bit is not looked at
 abbrev pub suits : WantedFlags → ℕ → Bool
 suits WellKnown flags = not (is_optional flags) && is_transitive flags
 suits OptionalNonTransitive flags = is_optional flags && not (is_transitive flags)
@@ -88,7 +91,7 @@ suits OptionalTransitive flags = is_optional flags && is_transitive flags
 suits Optional flags = is_optional flags
 suits Any flags = true
 
--- how many octets a value may have; numbers of four octets are one at least
+-- how many octets a value may have; a value of numbers of four octets each has at least one number
 abbrev pub admits : Lengths → ℕ → Bool
 admits (Exactly wanted) count = count == wanted
 admits Fours count = not (count == 0) && (count % 4 == 0)

@@ -1,5 +1,5 @@
--- What callers see of the attributes of a route: each of them as it is read from their written form (RFC 4271,
--- sections 4.3 and 5; RFC 6793; RFC 1997).
+-- The attributes of a route as callers see them: each attribute is read from the written form (RFC 4271, sections
+-- 4.3 and 5; RFC 6793; RFC 1997).
 use Rattle.std.specs.Prelude.{◌≡◌, ℕ, ◌<◌, ◌≤◌, List, [], length, drop, slice_index, Option, Some, None}
 use Rattle.std.specs.Prelude.{is_some, unwrap_or}
 use Rattle.std.specs.Option.{option_map}
@@ -13,16 +13,17 @@ use Rattle.rs_types.specs.Section.{Item, item_at, items_of, section_fault}
 use Rattle.rs_types.specs.Shapes.{passed_on_from}
 use Rattle.rs_types.specs.Spelling.{written}
 
--- the attribute that begins at a place of a section
+-- the attribute that begins at an offset of a section
 abbrev pub item_from : List ℕ → ℕ → Option Item
 item_from section place = option_map (λ split. split.0) (item_at (drop place section))
 
--- the value of an attribute, empty where it misses
+-- the value of an attribute; it is empty if there is no such attribute
 abbrev pub value_of : Option Item → List ℕ
 value_of None = []
 value_of (Some item) = item.value
 
--- the attributes of a written form, each looked up by its type, and those that are passed on in its order
+-- The attributes of a written form: each known attribute is looked up by its type. Attributes that are passed on
+-- unrecognized are in the order of the written form.
 abbrev pub looked_up_in : List ℕ → PathAttributes
 looked_up_in section = record {
   origin = origin_with (slice_index (value_of (look 1 (items_of section))) 0);
@@ -38,8 +39,8 @@ looked_up_in section = record {
 abbrev pub view_of : Inside → PathAttributes
 view_of fields = looked_up_in fields.spelling.items
 
--- the written form is a section without fault that fits a message, as its AS_PATH does; what is kept beside it
--- agrees with it
+-- The written form is a section without fault. It fits a message, and its AS_PATH does as well. The values that are
+-- kept next to the written form agree with it.
 pub record IsWhole (fields : Inside) : Type 0 where
   pub is_faultless : section_fault fields.spelling.items ≡ None
   pub fits_a_message : length fields.spelling.items ≤ 4073

@@ -1,4 +1,4 @@
--- The prefixes that cover a prefix: those that have its first bits (RFC 4271, section 9.1.4).
+-- The prefixes that cover a prefix (RFC 4271, section 9.1.4).
 use Rattle.std.specs.Prelude.{nat_lt, Bool, false, if◌then◌else◌, List}
 use Rattle.std.specs.List.{list_any}
 use Rattle.std.specs.Ordering.{eq_by_cmp}
@@ -6,11 +6,12 @@ use Rattle.rs_types.specs.IpPrefix.{IpPrefix}
 use Rattle.rs_types.specs.Prefix.{network_of}
 use Rattle.rs_types.specs.PrefixOrder.{prefix_cmp}
 
--- a prefix covers another, itself included: it is no longer, and the same as so many of the other's first bits
+-- one prefix covers another if it is not longer, and if its bits are the first bits of the other; each prefix covers
+-- itself
 abbrev pub covers : IpPrefix → IpPrefix → Bool
 covers wide prefix =
     if nat_lt prefix.len wide.len then false else eq_by_cmp prefix_cmp wide (network_of prefix.address wide.len)
 
--- some prefix of a list covers it
+-- whether some prefix of a list covers this prefix
 abbrev pub lists_cover : IpPrefix → List IpPrefix → Bool
 lists_cover prefix prefixes = list_any (λ listed. covers listed prefix) prefixes

@@ -1,4 +1,4 @@
--- Attributes where they stand in a message, by what they are (RFC 4271, section 4.3).
+-- Attributes at their places in a message, as values (RFC 4271, section 4.3).
 use Rattle.std.specs.Prelude.{ℕ, List}
 use Rattle.std.specs.Borrow.{Bor}
 use Rattle.rs_types.specs.declared.item.Item.{Item as ItemThere}
@@ -13,6 +13,6 @@ item_of item = record { flags = item.flags.octet; kind = item.kind; value = item
 abbrev pub split_of : ItemThere × Bor (List ℕ) → Item × List ℕ
 split_of split = (item_of split.0, split.1.now)
 
--- an attribute that is passed on, by what callers see of it
+-- an attribute that is passed on, as callers see it
 abbrev pub passed_of : ItemThere → PassedOn
 passed_of item = passed_on_of (item_of item)

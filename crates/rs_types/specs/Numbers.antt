@@ -2,7 +2,7 @@
 use Rattle.std.specs.Prelude.{ℕ, zero, suc, List, [], ◌∷◌, drop}
 use Rattle.byteorder.specs.Endian.{big_number}
 
--- the first `count` numbers of the octets
+-- the first `count` numbers that the octets spell
 unfoldable pub numbers_at : ℕ → List ℕ → List ℕ
 numbers_at zero octets = []
 numbers_at (suc count) octets = big_number 4 octets ∷ numbers_at count (drop 4 octets)

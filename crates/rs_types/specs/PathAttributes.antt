@@ -8,7 +8,7 @@ pub data PathSegment : Type 0 where
   AsSet : List ℕ → PathSegment
   AsSequence : List ℕ → PathSegment
 
--- COMMUNITIES (RFC 1997): the values in the order received, and whether the Partial bit stood
+-- COMMUNITIES (RFC 1997): the values in the order received, and whether the Partial bit was set
 pub record CommunityList : Type 0 where
   pub partial : Bool
   pub values : List ℕ
@@ -18,6 +18,8 @@ pub record PassedOn : Type 0 where
   pub kind : ℕ
   pub value : List ℕ
 
+-- the path attributes that a route keeps: ORIGIN, AS_PATH, NEXT_HOP, MED, ATOMIC_AGGREGATE, AGGREGATOR, COMMUNITIES
+-- and others
 pub record PathAttributes : Type 0 where
   pub origin : Origin
   pub path : List PathSegment

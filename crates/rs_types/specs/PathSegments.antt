@@ -17,12 +17,12 @@ AS_SEQUENCE = 2
 abbrev pub spelled_numbers : List ℕ → List ℕ
 spelled_numbers numbers = flat_map (big_bytes 4) numbers
 
--- a segment is spelled as its type, the count of its AS numbers, and these
+-- a segment is spelled as its type, the count of its AS numbers, and the AS numbers
 abbrev pub spelled_segment : PathSegment → List ℕ
 spelled_segment (AsSet numbers) = AS_SET ∷ length numbers ∷ spelled_numbers numbers
 spelled_segment (AsSequence numbers) = AS_SEQUENCE ∷ length numbers ∷ spelled_numbers numbers
 
--- the AS numbers of a segment: 1 to 255 of them, each of four octets
+-- a segment has 1 to 255 AS numbers, and each fits four octets
 pub record AreAsNumbers (numbers : List ℕ) : Type 0 where
   pub some : 0 < length numbers
   pub most : length numbers ≤ 255
@@ -32,11 +32,11 @@ abbrev pub IsSegment : PathSegment → Type 0
 IsSegment (AsSet numbers) = AreAsNumbers numbers
 IsSegment (AsSequence numbers) = AreAsNumbers numbers
 
--- octets that spell a segment: each count is at least 1
+-- octets spell a segment that has at least one AS number
 abbrev pub SpellsSegment : List ℕ → PathSegment → Type 0
 SpellsSegment octets segment = (octets ≡ spelled_segment segment) × IsSegment segment
 
--- the segment that a front of the octets spells, and the octets behind it
+-- the segment that the octets begin with, and the octets behind it
 unfoldable pub segment_at : List ℕ → Option (PathSegment × List ℕ)
 segment_at [] = None
 segment_at (kind ∷ []) = None
@@ -47,6 +47,6 @@ segment_at (kind ∷ count ∷ octets) =
     else if kind == AS_SEQUENCE then Some (AsSequence (numbers_at count octets), drop (4 * count) octets)
     else None
 
--- the segments of a value, and what is left over: the value is at fault where anything is
+-- the segments of a value, and the octets that are left over; a value with octets left over is at fault
 abbrev pub segments_of : List ℕ → List PathSegment × List ℕ
 segments_of value = parts_of segment_at value

@@ -1,4 +1,4 @@
--- Segments of an AS_PATH where they stand, by what they are (RFC 4271, section 4.3).
+-- Segments of an AS_PATH at their places in a message, as values (RFC 4271, section 4.3).
 use Rattle.std.specs.Prelude.{ℕ, List}
 use Rattle.std.specs.Borrow.{Bor}
 use Rattle.rs_types.specs.declared.as_path.SegmentView.{SegmentView}

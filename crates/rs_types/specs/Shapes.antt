@@ -1,4 +1,4 @@
--- Attributes by their values, where they stand in a written form (RFC 4271, sections 4.3 and 5; RFC 6793; RFC 1997).
+-- Attributes by their values, at their places in a written form (RFC 4271, sections 4.3 and 5; RFC 6793; RFC 1997).
 use Rattle.std.specs.Prelude.{ℕ, List, map, filter}
 use Rattle.rs_types.specs.declared.as_path.SegmentView.{SegmentView}
 use Rattle.rs_types.specs.declared.as_path.SegmentView.TheVariants.{Set, Sequence}
@@ -29,7 +29,7 @@ communities_of list = record { partial = list.partial; values = numbers_in list.
 abbrev pub other_of : Unrecognized → PassedOn
 other_of attribute = record { kind = attribute.kind; value = attribute.value.now }
 
--- the attributes of a section that are passed on, in its order
+-- the attributes of a section that are passed on, in the order of the section
 abbrev pub passed_on_from : List ℕ → List PassedOn
 passed_on_from section = map passed_on_of (filter is_passed_on (items_of section))
 

@@ -14,22 +14,24 @@ use Rattle.rs_types.specs.PathAttributes.{PathAttributes, CommunityList, PassedO
 use Rattle.rs_types.specs.PathSegments.{spelled_segment, spelled_numbers}
 use Rattle.rs_types.specs.Section.{Item, spelled_length}
 
--- flags as written: the low four bits are 0, and Extended Length stands exactly where the value is longer
--- than 255 octets
+-- the flags as written: the low four bits are 0, and Extended Length is set exactly if the value is longer than 255
+-- octets
 abbrev pub written_flags : ℕ → List ℕ → ℕ
 written_flags flags value = if nat_lt 255 (length value) then flags + 0x10 else flags
 
+-- a well-known attribute: its Transitive bit is set
 abbrev pub well_known : ℕ → List ℕ → Item
 well_known kind value = record { flags = written_flags 0x40 value; kind = kind; value = value }
 
 abbrev pub optional_non_transitive : ℕ → List ℕ → Item
 optional_non_transitive kind value = record { flags = written_flags 0x80 value; kind = kind; value = value }
 
--- the Partial bit as it was received
+-- an optional transitive attribute, with the Partial bit as it was received
 abbrev pub optional_transitive : Bool → ℕ → List ℕ → Item
 optional_transitive partial kind value =
     record { flags = written_flags (if partial then 0xE0 else 0xC0) value; kind = kind; value = value }
 
+-- the code of an ORIGIN
 abbrev pub origin_code : Origin → ℕ
 origin_code Igp = 0
 origin_code Egp = 1
@@ -46,7 +48,8 @@ communities_item kind list = optional_transitive list.partial kind (spelled_numb
 abbrev pub passed_on_item : PassedOn → Item
 passed_on_item other = optional_transitive true other.kind other.value
 
--- what is written of a type: nothing where the route has no attribute of it, and nothing of the types that are dropped
+-- the attribute that is written for a type: none if the route has no such attribute, or if the type is always
+-- dropped
 abbrev pub written_item : PathAttributes → ℕ → AttributeType → Option Item
 written_item attributes kind types.Origin = Some (well_known kind (origin_code attributes.origin ∷ []))
 written_item attributes kind types.AsPath = Some (well_known kind (flat_map spelled_segment attributes.path))
@@ -60,12 +63,14 @@ written_item attributes kind types.Unrecognized =
     option_map passed_on_item (find (λ other. other.kind == kind) attributes.others)
 written_item attributes kind dropped = None
 
--- all of them in ascending type
+-- all attributes that are written, in ascending type
 unfoldable pub written_items : PathAttributes → List Item
 written_items attributes = filter_map (λ kind. written_item attributes kind (type_of kind)) (range_with_len 0 256)
 
+-- the octets of an attribute
 abbrev pub spelled_item : Item → List ℕ
 spelled_item item = item.flags ∷ item.kind ∷ (spelled_length item ++ item.value)
 
+-- the written form of a route's attributes
 unfoldable pub written : PathAttributes → List ℕ
 written attributes = flat_map spelled_item (written_items attributes)

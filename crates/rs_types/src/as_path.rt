@@ -28,7 +28,7 @@ pub enum Segment {
     Sequence(Vec<u32>),
 }
 
-/// A segment of an AS_PATH where it stands in the written form of a route's attributes.
+/// A segment of an AS_PATH, at its place in the written form of a route's attributes.
 #[derive(Clone, Copy, Debug)]
 pub enum SegmentView<'a> {
     /// An AS_SET: unordered.
@@ -61,7 +61,7 @@ impl<'a> Iterator for Segments<'a> {
 }
 
 impl SegmentView<'_> {
-    /// The segment in memory of its own. Fails where memory is refused.
+    /// A copy of the segment in memory of its own.
     pub fn to_segment(&self, alloc: Global) -> Result<Segment, AllocError>
         ensures { IfOk result (λ segment. segment_of segment ≡ segment_in self.now) }
     {
@@ -93,7 +93,7 @@ impl SegmentView<'_> {
     }
 }
 
-// The first segment of an AS_PATH and the octets behind it, or None where no front of the octets spells one.
+// The first segment of an AS_PATH and the octets behind it, or None if the octets begin with no segment.
 #[tactic(auto, unfolding(crate::specs::PathSegments::segment_at))]
 fn split_segment(octets: &[u8]) -> Option<(SegmentView<'_>, &[u8])>
     ensures { option_map segment_split_of result ≡ segment_at octets.now }

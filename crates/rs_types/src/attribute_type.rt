@@ -110,9 +110,9 @@ pub struct Row {
     pub lengths: Lengths,
     /// What its value must be.
     pub value: ValueTest,
-    /// How it is handled by RFC 7606 where its length is at fault (section 7).
+    /// How RFC 7606 handles a wrong length (section 7).
     pub at_length: Handling,
-    /// How it is handled by RFC 7606 where its type stood earlier (section 3, g).
+    /// How RFC 7606 handles an attribute whose type stood earlier (section 3, g).
     pub again: Handling,
 }
 

@@ -25,13 +25,13 @@ use std::mem::size_of;
 // The numbers that half a community can hold.
 const HALF: u32 = 65536;
 
-/// COMMUNITIES (RFC 1997) where it stands in the written form: at least one value of four octets, in the
-/// order received.
+/// COMMUNITIES (RFC 1997) at its place in the written form: at least one value of four octets, in the order
+/// received.
 #[derive(Clone, Copy, Debug)]
 pub struct Communities<'a> {
-    /// Whether the Partial bit stood when it was received.
+    /// Whether the Partial bit was set when the attribute was received.
     pub partial: bool,
-    /// The values: the high half is an AS number, the low half is that AS's own.
+    /// The values: the high half is an AS number, the low half is a number which that AS chose.
     pub values: Numbers<'a>,
 }
 
@@ -57,8 +57,8 @@ impl Communities<'_> {
     }
 }
 
-/// An optional transitive attribute that this crate doesn't recognize, where it stands in the written form:
-/// it is passed on (RFC 4271, section 5).
+/// An optional transitive attribute that this crate doesn't recognize, at its place in the written form. It is
+/// passed on (RFC 4271, section 5).
 #[derive(Clone, Copy, Debug)]
 pub struct Unrecognized<'a> {
     /// The attribute's type.
@@ -154,7 +154,7 @@ impl Attributes {
         self.origin
     }
 
-    /// The segments of AS_PATH, in order; none where it is empty.
+    /// The segments of AS_PATH, in order; none if it is empty.
     pub fn path(&self) -> Segments<'_>
         ensures { segments_in result ≡ self.now.path }
     {
@@ -170,14 +170,14 @@ impl Attributes {
         BigEndian::read_u32(value_in(&self.spelling, NEXT_HOP))
     }
 
-    /// MULTI_EXIT_DISC, where it was received.
+    /// MULTI_EXIT_DISC, or None if it was not received.
     pub fn med(&self) -> Option<u32>
         ensures { result ≡ self.now.med }
     {
         med_of(find_item(&self.spelling, MULTI_EXIT_DISC))
     }
 
-    /// MULTI_EXIT_DISC as the decision process compares it: 0 where none was received (RFC 4271, section
+    /// MULTI_EXIT_DISC as the decision process compares it: 0 if none was received (RFC 4271, section
     /// 9.1.2.2, c).
     pub fn compared_med(&self) -> u32
         ensures { result ≡ unwrap_or self.now.med 0 }
@@ -192,14 +192,14 @@ impl Attributes {
         find_item(&self.spelling, ATOMIC_AGGREGATE).is_some()
     }
 
-    /// AGGREGATOR, where it was received.
+    /// AGGREGATOR, or None if it was not received.
     pub fn aggregator(&self) -> Option<Aggregator>
         ensures { result ≡ self.now.aggregator }
     {
         read_aggregator(find_item(&self.spelling, AGGREGATOR))
     }
 
-    /// COMMUNITIES, where it was received.
+    /// COMMUNITIES, or None if it was not received.
     pub fn communities(&self) -> Option<Communities<'_>>
         ensures { option_map communities_of result ≡ self.now.communities }
     {
@@ -231,8 +231,8 @@ impl Attributes {
         path_length(value_in(&self.spelling, AS_PATH))
     }
 
-    /// The neighbour AS: the first AS number where the path begins with an AS_SEQUENCE, else `peer_as`, the
-    /// sending peer's (our choice).
+    /// The neighbour AS: the first AS number if the path begins with an AS_SEQUENCE, else `peer_as`, the sending
+    /// peer's AS (our choice).
     pub fn neighbour(&self, peer_as: u32) -> u32
         ensures { result ≡ neighbour_of self.now.path peer_as }
     {
@@ -286,7 +286,7 @@ impl Attributes {
     }
 }
 
-// The value of the attribute of a type in a section, empty where none stands.
+// The value of the attribute of a type in a section, empty if the section has no such attribute.
 fn value_in(section: &[u8], kind: u8) -> &[u8]
     ensures { result.now ≡ value_of (look kind (items_of section.now)) }
 {

@@ -5,8 +5,8 @@ use thiserror::Error;
 /// What is wrong with an UPDATE: error code 3, UPDATE Message Error (RFC 4271, section 6.3).
 #[derive(Clone, Copy, Debug, PartialEq, Eq, Error)]
 pub enum UpdateFault {
-    /// Malformed Attribute List: lengths that pass the message, an attribute that passes the section, or a
-    /// type that stands again. Subcode 1.
+    /// Malformed Attribute List: lengths that pass the message, an attribute that passes the section, or a repeated
+    /// type. Subcode 1.
     #[error("Malformed Attribute List")]
     MalformedAttributeList,
     /// Unrecognized Well-known Attribute. Subcode 2.

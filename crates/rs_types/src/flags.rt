@@ -25,28 +25,28 @@ pub struct Flags {
 }
 
 impl Flags {
-    /// Whether the Optional bit stands.
+    /// Whether the Optional bit is set.
     pub fn is_optional(self) -> bool
         ensures { result ≡ is_optional self.octet }
     {
         self.octet & OPTIONAL != 0
     }
 
-    /// Whether the Transitive bit stands.
+    /// Whether the Transitive bit is set.
     pub fn is_transitive(self) -> bool
         ensures { result ≡ is_transitive self.octet }
     {
         self.octet & TRANSITIVE != 0
     }
 
-    /// Whether the Partial bit stands.
+    /// Whether the Partial bit is set.
     pub fn is_partial(self) -> bool
         ensures { result ≡ is_partial self.octet }
     {
         self.octet & PARTIAL != 0
     }
 
-    /// Whether the Extended Length bit stands.
+    /// Whether the Extended Length bit is set.
     pub fn is_extended(self) -> bool
         ensures { result ≡ is_extended self.octet }
     {

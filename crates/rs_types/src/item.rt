@@ -1,6 +1,6 @@
 //! One attribute of a section: its flags, its type and its value (RFC 4271, section 4.3).
 //!
-//! Extended Length may stand with a value of any length.
+//! The Extended Length bit may be set for a value of any length.
 
 ghost use Rattle.std.specs.Prelude.{◌≡◌, ◌≤◌, length};
 ghost use Rattle.std.specs.Option.{option_map};
@@ -13,7 +13,7 @@ use crate::attribute_type::AttributeType;
 use crate::flags::Flags;
 use byteorder::{BigEndian, ByteOrder};
 
-/// An attribute where it stands in a message.
+/// An attribute at its place in a message.
 #[derive(Clone, Copy)]
 pub struct Item<'a> {
     /// The flags as received.
@@ -24,8 +24,8 @@ pub struct Item<'a> {
     pub value: &'a [u8],
 }
 
-/// Takes the first attribute off a section: the attribute and the octets behind it, or None where no front of
-/// the octets spells one.
+/// Takes the first attribute off a section: the attribute and the octets behind it, or None if the section begins
+/// with no attribute.
 #[tactic(auto, unfolding(crate::specs::Section::item_at))]
 pub fn split_item(section: &[u8]) -> Option<(Item<'_>, &[u8])>
     ensures { option_map split_of result ≡ item_at section.now }
@@ -68,7 +68,7 @@ fn split_short(flags: Flags, kind: u8, octets: &[u8]) -> Option<(Item<'_>, &[u8]
     }
 }
 
-// The attribute whose value is the first `count` octets, where there are so many.
+// The attribute whose value is the first `count` octets, if there are so many.
 fn split_value(flags: Flags, kind: u8, count: usize, octets: &[u8]) -> Option<(Item<'_>, &[u8])>
     ensures { option_map split_of result ≡ item_with flags.octet kind count octets.now }
 {

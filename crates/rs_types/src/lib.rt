@@ -10,6 +10,8 @@
 //! - What holds of the definitions that the contracts cite: `laws`.
 //!
 //! The crate `rs_update` reads these of messages.
+//!
+//! A call that allocates fails if memory is refused.
 #![tactic(auto)]
 
 mod as_path;

@@ -11,8 +11,8 @@ use std::alloc::{AllocError, Global};
 // The octets of a number.
 pub(crate) const NUMBER_LEN: usize = 4;
 
-/// Numbers where they stand in the written form of a route's attributes: an iterator over them, in order,
-/// that takes no memory.
+/// Numbers at their place in the written form of a route's attributes: an iterator over them, in order. It takes no
+/// memory.
 #[derive(Clone, Copy, Debug)]
 pub struct Numbers<'a> {
     pub(crate) count: usize,
@@ -45,21 +45,21 @@ impl<'a> Iterator for Numbers<'a> {
 }
 
 impl Numbers<'_> {
-    /// How many they are.
+    /// How many numbers there are.
     pub fn len(&self) -> usize
         ensures { result ≡ length (numbers_at self.now.count self.now.octets.now) }
     {
         self.count
     }
 
-    /// The numbers in a list of one's own. Fails where memory is refused.
+    /// A copy of the numbers as a list.
     pub fn to_vec(&self, alloc: Global) -> Result<Vec<u32>, AllocError>
         ensures { IfOk result (λ numbers. numbers.items ≡ numbers_at self.now.count self.now.octets.now) }
     {
         read_numbers(alloc, self.count, self.octets)
     }
 
-    // Whether a number is among them.
+    // Whether a number is among these.
     pub(crate) fn contains(self, number: u32) -> bool
         ensures { result ≡ list_any (λ other. other == number) (numbers_at self.entry.count self.entry.octets.now) }
     {

@@ -39,7 +39,7 @@ impl Model for Prefix {
 }
 
 impl Prefix {
-    /// The prefix of the first `len` bits of `address`, or None where `len` is above 32. Host bits are cleared.
+    /// The prefix of the first `len` bits of `address`, or None if `len` is above 32. Host bits are cleared.
     pub fn new(address: u32, len: u8) -> Option<Prefix>
         ensures found { IsSome result ↔ (len ≤ MAX_LEN) }
         ensures value { IfSome result (λ prefix. prefix ≡ spec.network_of address len) }

@@ -1,6 +1,6 @@
 //! Values of path attributes, and what they must be (RFC 4271, sections 4.3 and 6.3).
 //!
-//! A NEXT_HOP is at fault where its first octet is 0, or 224 or more (our choice).
+//! A NEXT_HOP is at fault if its first octet is 0, or 224 or more (our choice).
 
 ghost use Rattle.std.specs.Prelude.{◌≡◌};
 ghost use Rattle.rs_types.specs.Section.{origin_of, is_origin as is_origin_value, is_next_hop as is_next_hop_value};
@@ -40,7 +40,7 @@ pub struct Aggregator {
     pub asn: u32,
     /// The speaker's IPv4 address, in host order.
     pub address: u32,
-    /// Whether the Partial bit stood when it was received.
+    /// Whether the Partial bit was set when the attribute was received.
     pub partial: bool,
 }
 

@@ -1,4 +1,4 @@
--- What RFC 7606 does for what it finds in the path attributes of an UPDATE (sections 2, 3 and 7).
+-- How RFC 7606 handles what is found in the path attributes of an UPDATE (sections 2, 3 and 7).
 use Rattle.std.specs.Prelude.{ℕ, Bool, true, false, ◌==◌, List, [], ◌∷◌, ◌++◌, length, Option, Some, None}
 use Rattle.std.specs.Prelude.{if◌then◌else◌}
 use Rattle.std.specs.List.{flat_map}
@@ -13,7 +13,8 @@ use Rattle.rs_types.specs.AttributeType.{type_of, row_of}
 use Rattle.rs_types.specs.Section.{Item, has_type, items_of, rest_of, own_fault_of}
 use Rattle.rs_types.specs.Spelling.{spelled_item}
 
--- the stronger of two: a reset of the session, then treat-as-withdraw, then attribute discard; of two resets the first
+-- the stronger of two: a reset of the session, then treat-as-withdraw, then attribute discard; of two resets the
+-- first one
 abbrev pub stronger : Handling → Handling → Handling
 stronger Keep later = later
 stronger AttributeDiscard Keep = AttributeDiscard
@@ -22,29 +23,30 @@ stronger TreatAsWithdraw (SessionReset fault) = SessionReset fault
 stronger TreatAsWithdraw later = TreatAsWithdraw
 stronger (SessionReset fault) later = SessionReset fault
 
--- a type that stood earlier, even where that one was discarded (section 3, g)
+-- how an attribute is handled whose type stood earlier, even if the earlier attribute was discarded (section 3, g)
 abbrev pub handling_again : AttributeType → Handling
 handling_again kind = (row_of kind).again
 
--- the fault of an attribute by itself: one that is not recognized, though it says that it is well-known,
--- resets; a wrong length is handled as its type asks; all else is treated as withdrawn, also where nothing is
--- announced (our choice)
+-- The handling of an attribute by its own fault. An attribute that is not recognized but says that it is well-known
+-- resets the session. A wrong length is handled as its type asks. All other faults are treated as withdrawals, even
+-- if nothing is announced (our choice).
 abbrev pub handling_of_fault : AttributeType → UpdateFault → Handling
 handling_of_fault kind UnrecognizedWellKnown = SessionReset UnrecognizedWellKnown
 handling_of_fault kind AttributeLength = (row_of kind).at_length
 handling_of_fault kind fault = TreatAsWithdraw
 
+-- the handling of an attribute by the first fault of its own tests, if there is one
 abbrev pub handling_of_own : AttributeType → Option UpdateFault → Handling
 handling_of_own kind None = Keep
 handling_of_own kind (Some fault) = handling_of_fault kind fault
 
--- an attribute that stands behind others; the tests of its own aren't made where its type stood earlier
+-- the handling of an attribute that stands behind others; if its type stood earlier, its own value is not tested
 abbrev pub handling_behind : List Item → Item → Handling
 handling_behind earlier item =
     if has_type item.kind earlier then handling_again (type_of item.kind)
     else handling_of_own (type_of item.kind) (own_fault_of item)
 
--- the strongest of what attributes ask for that stand behind others
+-- the strongest handling that attributes ask for, which stand behind others
 unfoldable pub strongest_behind : List Item → List Item → Handling
 strongest_behind earlier [] = Keep
 strongest_behind earlier (item ∷ later) =
@@ -54,15 +56,16 @@ strongest_behind earlier (item ∷ later) =
 abbrev pub handling_of_rest : List ℕ → Handling
 handling_of_rest rest = if length rest == 0 then Keep else SessionReset MalformedAttributeList
 
--- the strongest of what a section asks for
+-- the strongest handling that a section asks for
 abbrev pub strongest_in : List ℕ → Handling
 strongest_in section = stronger (strongest_behind [] (items_of section)) (handling_of_rest (rest_of section))
 
+-- whether an attribute with this handling is kept
 abbrev pub is_kept : Handling → Bool
 is_kept Keep = true
 is_kept handling = false
 
--- the attributes that are kept, of some that stand behind others
+-- of attributes that stand behind others, the ones that are not discarded
 unfoldable pub kept_behind : List Item → List Item → List Item
 kept_behind earlier [] = []
 kept_behind earlier (item ∷ later) =
@@ -73,6 +76,6 @@ kept_behind earlier (item ∷ later) =
 abbrev pub kept_of : List Item → List Item
 kept_of items = kept_behind [] items
 
--- these as they were received
+-- the attributes of a section that are not discarded, spelled as they were received
 abbrev pub kept_section : List ℕ → List ℕ
 kept_section section = flat_map spelled_item (kept_of (items_of section))

@@ -10,19 +10,20 @@ use Rattle.rs_update.specs.declared.header.MessageType.{MessageType}
 use Rattle.rs_update.specs.declared.header.MessageType.TheVariants.{Open, Update, Notification, KeepAlive, Refresh}
 use Rattle.rs_types.specs.FirstFault.{first_fault}
 
--- the Marker is sixteen octets of ones
+-- the Marker is sixteen octets, all of whose bits are 1
 abbrev pub is_marked : List ℕ → Bool
 is_marked octets = list_all (λ octet. octet == 0xff) (take 16 octets)
 
--- the number of octets of the message, its header counted
+-- the Length field: the number of octets of the message, with its header
 abbrev pub length_field : List ℕ → ℕ
 length_field octets = big_number 2 (drop 16 octets)
 
--- that is 19 to 4096, and as many octets are there
+-- the Length is 19 to 4096, and the message has that many octets
 abbrev pub has_length : List ℕ → Bool
 has_length octets =
     nat_le 19 (length_field octets) && nat_le (length_field octets) 4096 && (length_field octets == length octets)
 
+-- the Type field
 abbrev pub type_field : List ℕ → ℕ
 type_field octets = slice_index octets 18
 
@@ -36,8 +37,8 @@ type_of number =
     else if number == 5 then Some Refresh
     else None
 
--- the length that a message of a type has: a KEEPALIVE is its header alone, and each other has at least the
--- fields that it must have
+-- The Length that suits a type. A KEEPALIVE is its header alone. A message of another type has at least room for its
+-- mandatory fields.
 abbrev pub suits : MessageType → ℕ → Bool
 suits Open count = nat_le 29 count
 suits Update count = nat_le 23 count
@@ -45,7 +46,7 @@ suits Notification count = nat_le 21 count
 suits KeepAlive count = count == 19
 suits Refresh count = nat_le 19 count
 
--- no length suits what is no type
+-- no Length suits an unknown type
 abbrev pub suits_type : Option MessageType → ℕ → Bool
 suits_type None count = false
 suits_type (Some kind) count = suits kind count
@@ -59,6 +60,7 @@ header_tests octets =
     ∷ (is_none (type_of (type_field octets)), BadType)
     ∷ (not (suits_type (type_of (type_field octets)) (length octets)), BadLength) ∷ []
 
+-- the first fault of a header
 abbrev pub header_fault : List ℕ → Option HeaderFault
 header_fault octets = first_fault (header_tests octets)
 

@@ -22,19 +22,19 @@ use Rattle.rs_types.specs.Prefix.{prefixes_of}
 use Rattle.rs_types.specs.Section.{items_of, section_fault}
 use Rattle.rs_types.specs.Gathered.{attributes_of}
 
--- what an UPDATE says: prefixes withdrawn, and prefixes announced with their attributes
+-- what an UPDATE says: the prefixes withdrawn, and the prefixes announced with their attributes
 pub record UpdateContent : Type 0 where
   pub withdrawn : List IpPrefix
   pub attributes : Option PathAttributes
   pub nlri : List IpPrefix
 
--- an UPDATE whose routes are all treated as withdrawn (RFC 7606, section 2): the prefixes that it withdraws,
--- and those that it announces
+-- an UPDATE whose routes are all treated as withdrawn (RFC 7606, section 2): the prefixes withdrawn, and the
+-- prefixes announced
 pub record TreatedContent : Type 0 where
   pub withdrawn : List IpPrefix
   pub nlri : List IpPrefix
 
--- a message by its type; only an UPDATE has contents that count
+-- a message by its type; contents are kept of an UPDATE alone
 pub data MessageContent : Type 0 where
   IsOpen : MessageContent
   IsUpdate : UpdateContent → MessageContent
@@ -58,42 +58,48 @@ content_of kinds.Refresh = IsRefresh
 -- ---- an UPDATE behind its header (section 4.3): Withdrawn Routes Length, Withdrawn Routes, Total Path
 -- Attribute Length, Path Attributes, NLRI
 
+-- Withdrawn Routes Length: the first two octets
 abbrev pub withdrawn_length : List ℕ → ℕ
 withdrawn_length body = big_number 2 body
 
+-- the Withdrawn Routes
 abbrev pub withdrawn_field : List ℕ → List ℕ
 withdrawn_field body = take (withdrawn_length body) (drop 2 body)
 
+-- the octets behind the Withdrawn Routes
 abbrev pub behind_withdrawn : List ℕ → List ℕ
 behind_withdrawn body = drop (2 + withdrawn_length body) body
 
+-- Total Path Attribute Length
 abbrev pub section_length : List ℕ → ℕ
 section_length body = big_number 2 (behind_withdrawn body)
 
+-- the Path Attributes
 abbrev pub section_field : List ℕ → List ℕ
 section_field body = take (section_length body) (drop 2 (behind_withdrawn body))
 
+-- the NLRI: all octets behind the Path Attributes
 abbrev pub nlri_field : List ℕ → List ℕ
 nlri_field body = drop (2 + section_length body) (behind_withdrawn body)
 
--- both lengths stay inside the message
+-- the tests that both length fields stay inside the message
 abbrev pub length_tests : List ℕ → List (Bool × UpdateFault)
 length_tests body =
     (nat_lt (length body) (withdrawn_length body + 4), MalformedAttributeList)
     ∷ (nat_lt (length body) (withdrawn_length body + section_length body + 4), MalformedAttributeList) ∷ []
 
--- the attributes of the routes announced: there where any is, and then none of the mandatory ones may miss
--- (section 6.3)
+-- the attributes of the routes announced: None if no route is announced; otherwise ORIGIN, AS_PATH and NEXT_HOP must
+-- be there (section 6.3)
 abbrev pub announced_attributes : List ℕ → List ℕ → Result (Option PathAttributes) UpdateFault
 announced_attributes section [] = Ok None
 announced_attributes section (octet ∷ nlri) =
     elim (attributes_of (items_of section)) [ None ↦ Err MissingWellKnown | Some attributes ↦ Ok (Some attributes) ]
 
--- the prefixes of a field, which may be at fault
+-- the prefixes that a field lists, or the fault that it lists none
 abbrev pub listed_prefixes : List ℕ → Result (List IpPrefix) UpdateFault
 listed_prefixes octets = elim (prefixes_of octets) [ None ↦ Err InvalidNetworkField | Some prefixes ↦ Ok prefixes ]
 
--- a test that must find nothing
+-- a test that passes if there is no fault
 abbrev pub passes : Option UpdateFault → Result (Unit {0}) UpdateFault
 passes None = Ok tt
 passes (Some fault) = Err fault
@@ -103,8 +109,8 @@ abbrev pub ◌>>=◌ : {A B : Type 0} → Result A UpdateFault → (A → Result
 (Ok x) >>= f = f x
 (Err fault) >>= f = Err fault
 
--- what the body of an UPDATE says, or its first fault: lengths, attributes, mandatory attributes, withdrawn
--- routes, NLRI, in this order (our choice)
+-- What the body of an UPDATE says, or its first fault. The tests come in this order (our choice): lengths,
+-- attributes, mandatory attributes, withdrawn routes, NLRI.
 unfoldable pub update_of : List ℕ → Result UpdateContent UpdateFault
 update_of body = do
   _lengths ← passes (first_fault (length_tests body))
@@ -118,7 +124,7 @@ abbrev pub update_message : Result UpdateContent UpdateFault → Result MessageC
 update_message (Ok update) = Ok (IsUpdate update)
 update_message (Err fault) = Err (of_update fault)
 
--- a message of a type: an UPDATE has contents, and those of the others aren't read
+-- a message of this type and body; the bodies of messages other than UPDATE are not read
 abbrev pub typed_message : MessageType → List ℕ → Result MessageContent MessageFault
 typed_message types.Open body = Ok IsOpen
 typed_message types.Update body = update_message (update_of body)
@@ -126,31 +132,31 @@ typed_message types.Notification body = Ok IsNotification
 typed_message types.KeepAlive body = Ok IsKeepAlive
 typed_message types.Refresh body = Ok IsRefresh
 
--- the message that octets are, or their first fault; the header takes 19 octets
+-- the message that the octets are, or its first fault; the header takes 19 octets
 unfoldable pub message_of : List ℕ → Result MessageContent MessageFault
 message_of octets =
     elim (header_of octets) [ Ok kind ↦ typed_message kind (drop 19 octets) | Err fault ↦ Err (of_header fault) ]
 
 -- ---- the first fault, as a list of tests
 
--- whether routes are announced without ORIGIN, AS_PATH or NEXT_HOP
+-- whether routes are announced while ORIGIN, AS_PATH or NEXT_HOP is missing
 abbrev pub lacks_mandatory : List ℕ → Bool
 lacks_mandatory body = not (length (nlri_field body) == 0) && is_none (attributes_of (items_of (section_field body)))
 
--- the tests of an UPDATE behind its path attributes
+-- the tests of an UPDATE that come after the tests of its path attributes
 abbrev pub field_tests : List ℕ → List (Bool × UpdateFault)
 field_tests body =
     (lacks_mandatory body, MissingWellKnown)
     ∷ (is_none (prefixes_of (withdrawn_field body)), InvalidNetworkField)
     ∷ (is_none (prefixes_of (nlri_field body)), InvalidNetworkField) ∷ []
 
--- lengths, path attributes, mandatory attributes, withdrawn routes, NLRI: the first test that finds a fault decides
+-- the first fault of an UPDATE; the order is lengths, path attributes, mandatory attributes, withdrawn routes, NLRI
 abbrev pub update_fault : List ℕ → Option UpdateFault
 update_fault body =
     or_else (first_fault (length_tests body))
     (or_else (section_fault (section_field body)) (first_fault (field_tests body)))
 
--- only the contents of an UPDATE can be at fault
+-- contents can be at fault in an UPDATE alone
 abbrev pub contents_fault : Option MessageType → List ℕ → Option UpdateFault
 contents_fault None body = None
 contents_fault (Some types.Open) body = None
@@ -159,15 +165,15 @@ contents_fault (Some types.Notification) body = None
 contents_fault (Some types.KeepAlive) body = None
 contents_fault (Some types.Refresh) body = None
 
--- the first fault of a message: of its header, or else of its contents
+-- the first fault of a message: that of its header, or else that of its contents
 abbrev pub message_fault : List ℕ → Option MessageFault
 message_fault octets =
     or_else (option_map of_header (header_fault octets))
     (option_map of_update (contents_fault (type_of (type_field octets)) (drop 19 octets)))
 
--- ---- what a reader answers
+-- ---- the answers of a reader of messages
 
--- an UPDATE without a fault that lists a prefix: a reader takes memory for nothing else
+-- an UPDATE without fault that lists some prefix: only for its prefixes a reader allocates memory
 abbrev pub ListsPrefix : Result MessageContent MessageFault → Type 0
 ListsPrefix (Ok (IsUpdate update)) = 0 < length update.withdrawn + length update.nlri
 ListsPrefix (Ok (IsTreated treated)) = 0 < length treated.withdrawn + length treated.nlri
@@ -177,19 +183,21 @@ ListsPrefix (Ok IsKeepAlive) = ⊥
 ListsPrefix (Ok IsRefresh) = ⊥
 ListsPrefix (Err fault) = ⊥
 
--- what a reader of an UPDATE answers is what the octets say; want of memory comes only where a prefix is listed
+-- A reader of an UPDATE answers what its octets say. It may answer that memory was refused only if the UPDATE lists
+-- a prefix.
 abbrev pub AnswersUpdate : Result Update MessageFault → Result UpdateContent UpdateFault → Type 0
 AnswersUpdate (Ok update) says = says ≡ Ok (update_content_of update)
 AnswersUpdate (Err faults.Memory) says = ListsPrefix (update_message says)
 AnswersUpdate (Err (faults.Bgp code subcode)) says = update_message says ≡ Err (faults.Bgp code subcode)
 
--- what a reader answers is what the octets say; want of memory comes only where a prefix is listed
+-- A reader of a message answers what its octets say. It may answer that memory was refused only if the message is an
+-- UPDATE that lists a prefix.
 abbrev pub Answers : Result Message MessageFault → Result MessageContent MessageFault → Type 0
 Answers (Ok message) says = says ≡ Ok (content_of message)
 Answers (Err faults.Memory) says = ListsPrefix says
 Answers (Err (faults.Bgp code subcode)) says = says ≡ Err (faults.Bgp code subcode)
 
--- an UPDATE has attributes exactly where it announces prefixes
+-- an UPDATE has attributes exactly if it announces prefixes
 abbrev pub HasAttributesForRoutes : Message → Type 0
 HasAttributesForRoutes kinds.Open = Unit {0}
 HasAttributesForRoutes (kinds.Update update) = IsSome update.attributes ↔ (0 < length update.nlri.items)
@@ -198,7 +206,7 @@ HasAttributesForRoutes kinds.Notification = Unit {0}
 HasAttributesForRoutes kinds.KeepAlive = Unit {0}
 HasAttributesForRoutes kinds.Refresh = Unit {0}
 
--- no routes are treated as withdrawn
+-- the message is not an UPDATE whose routes are treated as withdrawn
 abbrev pub IsUntreated : Message → Type 0
 IsUntreated kinds.Open = Unit {0}
 IsUntreated (kinds.Update update) = Unit {0}

@@ -1,4 +1,4 @@
--- A message by either standard of handling faults: RFC 4271, or RFC 7606 (sections 2 to 4 and 7).
+-- A message under either standard of handling faults: RFC 4271, or RFC 7606 (sections 2 to 4 and 7).
 use Rattle.std.specs.Prelude.{ℕ, List, [], ◌∷◌, drop, Option, Some, None, Result, Ok, Err}
 use Rattle.std.specs.Option.{option_map}
 use Rattle.rs_update.specs.declared.errors.Errors.{Errors}
@@ -23,18 +23,19 @@ use Rattle.rs_update.specs.Message.{section_field, nlri_field, update_message, u
 use Rattle.rs_types.specs.PathAttributes.{PathAttributes}
 use Rattle.rs_types.specs.Section.{items_of}
 
--- a fault that resets the session
+-- the fault that resets the session, if this handling is a reset
 abbrev pub reset_of : Handling → Option UpdateFault
 reset_of (SessionReset fault) = Some fault
 reset_of handling = None
 
--- the attributes of the routes announced: there where any is, and out of those that are kept; none at all
--- where a mandatory one is missing among them
+-- The attributes of the routes announced, out of those that are not discarded. If no route is announced, there are
+-- none. The outer None says that a mandatory attribute is missing.
 abbrev pub kept_attributes : List ℕ → List ℕ → Option (Option PathAttributes)
 kept_attributes section [] = Some None
 kept_attributes section (octet ∷ nlri) = option_map Some (attributes_of (kept_of (items_of section)))
 
--- the same, and none at all where a fault asks for treat-as-withdraw
+-- the attributes of the routes announced; None if a fault asks for treat-as-withdraw, or if a mandatory attribute is
+-- missing
 abbrev pub standing_attributes : Handling → List ℕ → List ℕ → Option (Option PathAttributes)
 standing_attributes TreatAsWithdraw section nlri = None
 standing_attributes handling section nlri = kept_attributes section nlri
@@ -43,14 +44,15 @@ abbrev pub attributes_in : Treatment → Option (Option PathAttributes)
 attributes_in Withdrawn = None
 attributes_in (Stands attributes) = Some attributes
 
--- an UPDATE stands with its attributes, or all its routes are treated as withdrawn
+-- an UPDATE that counts with its attributes, or one whose routes are all treated as withdrawn
 abbrev pub content_with : Option (Option PathAttributes) → List IpPrefix → List IpPrefix → MessageContent
 content_with None withdrawn nlri = IsTreated (record { withdrawn = withdrawn; nlri = nlri })
 content_with (Some attributes) withdrawn nlri =
     IsUpdate (record { withdrawn = withdrawn; attributes = attributes; nlri = nlri })
 
--- what the body of an UPDATE says by RFC 7606. What resets the session counts before all else, in this order
--- (our choice): lengths, the section front to back and its rest, withdrawn routes, NLRI
+-- What the body of an UPDATE says under RFC 7606. A fault that resets the session counts before all others. Such
+-- faults are looked for in this order (our choice): lengths, the section from front to back and its rest, withdrawn
+-- routes, NLRI.
 unfoldable pub treating_update_of : List ℕ → Result MessageContent UpdateFault
 treating_update_of body = do
   _lengths ← passes (first_fault (length_tests body))
@@ -64,11 +66,12 @@ abbrev pub treating_message : Result MessageContent UpdateFault → Result Messa
 treating_message (Ok content) = Ok content
 treating_message (Err fault) = Err (of_update fault)
 
+-- what the body of an UPDATE says, or its first fault, under a standard of handling faults
 abbrev pub update_by : Errors → List ℕ → Result MessageContent MessageFault
 update_by Rfc4271 body = update_message (update_of body)
 update_by Rfc7606 body = treating_message (treating_update_of body)
 
--- a message of a type: only the contents of an UPDATE are read
+-- a message of this type and body; the bodies of messages other than UPDATE are not read
 abbrev pub typed_message_by : Errors → MessageType → List ℕ → Result MessageContent MessageFault
 typed_message_by errors types.Open body = Ok IsOpen
 typed_message_by errors types.Update body = update_by errors body
@@ -76,7 +79,7 @@ typed_message_by errors types.Notification body = Ok IsNotification
 typed_message_by errors types.KeepAlive body = Ok IsKeepAlive
 typed_message_by errors types.Refresh body = Ok IsRefresh
 
--- the message that octets are, or their first fault, by a standard of handling faults
+-- the message that the octets are, or its first fault, under a standard of handling faults
 unfoldable pub message_by : Errors → List ℕ → Result MessageContent MessageFault
 message_by errors octets =
     elim (header_of octets) [

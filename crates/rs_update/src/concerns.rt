@@ -32,7 +32,7 @@ pub fn concerns_prefix(errors: Errors, octets: &[u8], prefix: Prefix) -> bool
     }
 }
 
-// The same of an UPDATE behind its header.
+// Whether the UPDATE with this body, which stands behind its header, may concern a prefix.
 fn update_concerns(errors: Errors, body: &[u8], prefix: Prefix) -> bool
     requires { 4 ≤ length body.now }
     ensures { result ≡ message_concerns prefix (update_by errors body.now) }
@@ -73,7 +73,7 @@ fn is_at_fault(section: &[u8], nlri: &[u8]) -> bool
     !nlri.is_empty() && !has_mandatory(&seen)
 }
 
-// Whether ORIGIN, AS_PATH and NEXT_HOP are among the types that stand.
+// Whether `seen` has the types ORIGIN, AS_PATH and NEXT_HOP.
 fn has_mandatory(seen: &[bool; TYPES]) -> bool
     ensures { result ≡ has_mandatory seen.now }
 {

@@ -1,6 +1,6 @@
-//! Where the attributes of a section stand, by their types (RFC 4271, section 5).
+//! The places of the attributes of a section, by their types (RFC 4271, section 5).
 //!
-//! One pass finds them, once for each message. A section without fault has one of each type at most.
+//! One pass finds them, once for each message. A section without fault has at most one attribute of each type.
 
 ghost use Rattle.std.specs.Prelude.{◌≡◌, ◌<◌, ◌≤◌, length, None, replicate};
 ghost use Rattle.rs_update.specs.Found.{AreFound, stands, has_mandatory};
@@ -12,24 +12,24 @@ use rs_types::{AS_PATH, NEXT_HOP, ORIGIN, split_item};
 /// A place behind the end of each section.
 pub(crate) const NOWHERE: u16 = u16::MAX;
 
-/// Where the attributes of a section begin, by their types.
+/// The places at which the attributes of a section begin, by their types.
 #[derive(Clone, Copy)]
 pub(crate) struct Found<'t> {
-    /// A place for each type, `NOWHERE` where none stands.
+    /// A place for each type; `NOWHERE` if no attribute has the type.
     pub(crate) places: &'t [u16; TYPES],
     /// No attribute has this type or a higher one.
     pub(crate) end: usize,
 }
 
 impl Found<'_> {
-    /// Whether an attribute of a type stands.
+    /// Whether an attribute of a type was found.
     pub(crate) fn stands(&self, kind: u8) -> bool
         ensures { result ≡ stands self.now kind }
     {
         self.places[usize::from(kind)] != NOWHERE
     }
 
-    /// Whether ORIGIN, AS_PATH and NEXT_HOP stand.
+    /// Whether ORIGIN, AS_PATH and NEXT_HOP were found.
     pub(crate) fn has_mandatory(&self) -> bool
         ensures { result ≡ has_mandatory self.now }
     {
@@ -37,7 +37,7 @@ impl Found<'_> {
     }
 }
 
-// An end behind a type more.
+// The end of the types, after one more type was found.
 fn end_with(end: usize, kind: u8) -> usize
     ensures before { end ≤ result }
     ensures behind { kind < result }

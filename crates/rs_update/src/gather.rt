@@ -1,6 +1,6 @@
 //! The attributes of a route, out of a section that is without fault (RFC 4271, section 5; RFC 1997; RFC 6793).
 //!
-//! They are made whole at once, of their written form.
+//! All attributes of a route are made at once, from their written form.
 
 ghost use Rattle.std.specs.Prelude.{◌≡◌, ◌≤◌, length, None, IfOk};
 ghost use Rattle.rs_types.specs.Gathered.{attributes_of};
@@ -13,8 +13,8 @@ use crate::spelling::spell;
 use rs_types::Attributes;
 use std::alloc::{AllocError, Global};
 
-/// The attributes that a section without fault gives a route, out of where they stand in it, or None where
-/// ORIGIN, AS_PATH or NEXT_HOP misses; then it takes no memory.
+/// The attributes that a section without fault gives a route; `found` has their places. None if ORIGIN, AS_PATH or
+/// NEXT_HOP is missing; then no memory is taken.
 pub(crate) fn gather(
     alloc: Global,
     section: &[u8],
@@ -32,7 +32,7 @@ pub(crate) fn gather(
     Ok(Some(Attributes::of_written(spelling)))
 }
 
-/// The same, where they are yet to be found.
+/// Finds the attributes of a section without fault, and gathers those that the section gives a route.
 pub(crate) fn find_and_gather(
     alloc: Global,
     section: &[u8],

@@ -1,7 +1,7 @@
 //! What RFC 7606 does for what it finds in the path attributes of an UPDATE (sections 2, 3 and 7).
 //!
 //! Our choice: a fault of the Optional or the Transitive bit, of a length or of a value is treated as
-//! withdrawal where nothing is announced, too.
+//! withdrawal if nothing is announced, too.
 
 ghost use Rattle.std.specs.Prelude.{◌≡◌};
 ghost use Rattle.rs_update.specs.Handling.{handling_again, handling_of_fault, handling_of_own, is_kept, stronger};
@@ -33,7 +33,7 @@ pub(crate) fn is_keep(handling: Handling) -> bool
     matches!(handling, Handling::Keep)
 }
 
-/// How an attribute of this type is handled where one of the type stood earlier (RFC 7606, section 3, g).
+/// How an attribute of this type is handled if the type stood earlier (RFC 7606, section 3, g).
 pub(crate) fn handling_again(kind: AttributeType) -> Handling
     ensures { result ≡ handling_again kind }
 {
@@ -51,7 +51,7 @@ fn handling_of_fault(kind: AttributeType, fault: UpdateFault) -> Handling
     }
 }
 
-/// The same of a fault that there may be.
+/// How an attribute of this type is handled that has this fault, or none.
 pub(crate) fn handling_of(kind: AttributeType, fault: Option<UpdateFault>) -> Handling
     ensures { result ≡ handling_of_own kind fault }
 {

@@ -38,7 +38,7 @@ pub enum MessageType {
 }
 
 impl MessageType {
-    /// The type with this number, or None where no type has it.
+    /// The type with this number, or None if no type has it.
     pub fn of(number: u8) -> Option<MessageType>
         ensures { result ≡ spec.type_of number }
     {

@@ -10,44 +10,44 @@ ghost use Rattle.rs_types.specs.Spelling.{written};
 
 use rs_types::Attributes;
 
-/// A field of withdrawn routes or of NLRI lists at most one list of prefixes, and reading finds it exactly
-/// where there is one (RFC 4271, section 4.3).
+/// A field of withdrawn routes or of NLRI lists at most one list of prefixes, and reading the field finds this list
+/// if there is one (RFC 4271, section 4.3).
 pub fn a_field_is_one_list_of_prefixes()
     ensures { FieldIsRead }
 {}
 
-/// A section of path attributes is in just one way attributes and a rest no front of which spells one, and
-/// reading finds it (RFC 4271, section 4.3).
+/// There is exactly one way to split a section of path attributes into attributes and a rest that does not begin
+/// with an attribute. Reading the section finds it (RFC 4271, section 4.3).
 pub fn a_section_is_one_list_of_attributes()
     ensures { SectionIsRead }
 {}
 
-/// A section is at fault by the first of its attributes that is, or else by octets that are left over (RFC
-/// 4271, section 6.3). An attribute is at fault where its type stood earlier, or by its own tests.
+/// The fault of a section is that of its first attribute at fault, or else that octets are left over (RFC 4271,
+/// section 6.3). An attribute is at fault if its type stood earlier, or if one of its own tests finds a fault.
 pub fn a_section_is_at_fault_by_its_first_attribute_at_fault()
     ensures none { SectionIsFaultless }
     ensures fault { SectionFaultIsFirst }
 {}
 
-/// The value of an AS_PATH is in just one way segments and a rest no front of which spells one, and reading
-/// finds it (RFC 4271, section 4.3; RFC 6793).
+/// There is exactly one way to split the value of an AS_PATH into segments and a rest that does not begin with a
+/// segment. Reading the value finds it (RFC 4271, section 4.3; RFC 6793).
 pub fn a_path_is_one_list_of_segments()
     ensures { PathIsRead }
 {}
 
-/// A message is at fault by the first test that finds a fault, in the order of the tests, and without one the
-/// message is given (RFC 4271, section 6).
+/// The fault of a message is the one that its first failing test finds, in the order of the tests. If no test finds
+/// a fault, the message is given (RFC 4271, section 6).
 pub fn a_message_is_at_fault_by_its_first_fault()
     ensures fault { FaultIsFirst }
     ensures none { NoFaultIsMessage }
 {}
 
-/// With faults handled by RFC 4271 a message says what that standard says.
+/// If faults are handled by RFC 4271, a message says what that standard says.
 pub fn by_rfc_4271_a_message_says_what_it_says()
     ensures { Rfc4271IsAsBefore }
 {}
 
-/// Where RFC 4271 finds no fault, RFC 7606 reads the same message.
+/// If RFC 4271 finds no fault, RFC 7606 reads the same message.
 pub fn without_a_fault_both_standards_agree()
     ensures { StandardsAgree }
 {}
@@ -58,14 +58,14 @@ pub fn the_strongest_that_is_found_counts()
     ensures { StrongestIsFound }
 {}
 
-/// An UPDATE has attributes exactly where it announces prefixes.
+/// An UPDATE has attributes exactly if it announces prefixes.
 pub fn attributes_are_for_announced_routes()
     ensures { AttributesAreForRoutes }
 {}
 
-/// What is written of the attributes that a section gives is a section without fault. It gives the same
-/// attributes, Partial bits included. It is never longer than the section received (RFC 4271, section 4.3).
-/// Written again after reading it is the same octets.
+/// What is written of the attributes that a section gives is a section without fault. It gives the same attributes,
+/// Partial bits included. It is never longer than the section received (RFC 4271, section 4.3). Reading and writing
+/// it again gives the same octets.
 pub fn what_is_written_reads_as_the_same_attributes()
     ensures { WrittenIsRead }
 {}

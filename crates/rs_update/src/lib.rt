@@ -3,7 +3,7 @@
 //!
 //! Reading order:
 //! - Fields and faults: `prefix_list` (the fields that list prefixes), `fault` (what can be wrong, by code and subcode).
-//! - A section of attributes: `section` (its first fault), `found` (where attributes stand where none is at fault).
+//! - A section of attributes: `section` (its first fault), `found` (where attributes stand if none is at fault).
 //! - The attributes of a route: `gather`.
 //! - What RFC 7606 does in place of a fault: `errors`, `handling` and `treating`.
 //! - Messages: `header`, `update` and `message` (a message by its type, and its first fault), `concerns` (whether a

@@ -16,7 +16,7 @@ use std::alloc::Global;
 pub struct Update {
     /// The withdrawn prefixes, in order, repeated ones too.
     pub withdrawn: Vec<Prefix>,
-    /// The attributes: there exactly where `nlri` isn't empty.
+    /// The attributes: there exactly if `nlri` isn't empty.
     pub attributes: Option<Attributes>,
     /// The announced prefixes, in order, repeated ones too.
     pub nlri: Vec<Prefix>,
@@ -49,9 +49,11 @@ pub enum Message {
 /// Reads one message, the octets of which are `octets`, or answers its first fault (RFC 4271, section 6):
 /// `read_message_by` with `Errors::Rfc4271`.
 ///
-/// The faults, in the order of testing: those of the header; of an UPDATE its lengths, its path attributes
-/// front to back, a mandatory attribute that misses, the withdrawn routes, the NLRI. `MessageFault::Memory`
-/// comes only where memory was refused, and only for an UPDATE without fault that lists a prefix.
+/// The faults, in the order of testing: first those of the header. Then come those of an UPDATE: its lengths, its
+/// path attributes from front to back, a missing mandatory attribute, the withdrawn routes, and the NLRI.
+///
+/// `MessageFault::Memory` comes only if memory was refused, and only for an UPDATE without fault that lists a
+/// prefix.
 pub fn read_message(alloc: Global, octets: &[u8]) -> Result<Message, MessageFault>
     ensures answer { Answers result (message_of octets.now) }
     ensures routes { IfOk result HasAttributesForRoutes }
@@ -60,24 +62,24 @@ pub fn read_message(alloc: Global, octets: &[u8]) -> Result<Message, MessageFaul
     read_message_by(alloc, Errors::Rfc4271, octets)
 }
 
-/// Reads one message, the octets of which are `octets`, with faults in path attributes handled by the
-/// standard `errors`.
+/// Reads one message, the octets of which are `octets`, with faults in path attributes handled by the standard
+/// `errors`.
 ///
-/// By RFC 7606 an attribute that is repeated, or ATOMIC_AGGREGATE or AGGREGATOR of a wrong length, is left
-/// out. For any other fault of an attribute the answer is `Message::Treated`. It is so, too, where announced routes
+/// By RFC 7606 an attribute that is repeated, or ATOMIC_AGGREGATE or AGGREGATOR of a wrong length, is left out. For
+/// any other fault of an attribute the answer is `Message::Treated`. The same answer is given if announced routes
 /// lack a mandatory attribute.
 ///
 /// These faults still close the session, in the order of testing:
 /// - Faults of the header.
 /// - The lengths of an UPDATE.
 /// - In its path attributes, front to back: a well-known one that isn't recognized, and a repeated MP_REACH_NLRI or
-///   MP_UNREACH_NLRI.
+/// MP_UNREACH_NLRI.
 /// - Octets left over behind the path attributes.
 /// - The withdrawn routes.
 /// - The NLRI.
 ///
-/// `MessageFault::Memory` comes only where memory was refused, and only for an UPDATE that closes no session
-/// and lists a prefix.
+/// `MessageFault::Memory` comes only if memory was refused, and only for an UPDATE that closes no session and lists
+/// a prefix.
 #[tactic(auto, unfolding(crate::specs::Treating::message_by))]
 pub fn read_message_by(
     alloc: Global,

@@ -9,7 +9,7 @@ use byteorder::{BigEndian, ByteOrder};
 use rs_types::Prefix;
 use std::alloc::{AllocError, Global};
 
-// The prefix that the octets begin with, and the octets behind it; None where they begin with none.
+// The prefix that the octets begin with, and the octets behind it; None if they begin with none.
 #[tactic(auto, unfolding(rs_types::specs::Prefix::prefix_at))]
 pub(crate) fn split_first(octets: &[u8]) -> Option<(Prefix, &[u8])>
     ensures { option_map (λ split. (split.0, split.1.now)) result ≡ spec.prefix_at octets.now }
@@ -44,7 +44,7 @@ fn octet_at(octets: &[u8], place: usize) -> u8
     octets.get(place).copied().unwrap_or(0)
 }
 
-// How many prefixes a field lists, or None where it isn't a list of prefixes.
+// How many prefixes a field lists, or None if it isn't a list of prefixes.
 pub(crate) fn count_prefixes(field: &[u8]) -> Option<usize>
     ensures { result ≡ option_map length (spec.prefixes_of field.now) }
 {

@@ -16,7 +16,7 @@ use rs_types::{AttributeType, Flags, Item, UpdateFault, split_item};
 // The numbers that a type can have.
 pub(crate) const TYPES: usize = 256;
 
-/// The first fault of a section, or None where it has none. It reads each octet once and takes no memory.
+/// The first fault of a section, or None if it has none. It reads each octet once and takes no memory.
 pub(crate) fn section_fault(section: &[u8]) -> Option<UpdateFault>
     ensures { result ≡ section_fault_of section.now }
 {
@@ -24,7 +24,7 @@ pub(crate) fn section_fault(section: &[u8]) -> Option<UpdateFault>
     find_fault(section, &mut seen)
 }
 
-/// The same, and which types stand in a section without fault: `seen` is filled in.
+/// The first fault of a section. If there is none, `seen` says afterwards which types the section has.
 pub(crate) fn find_fault(section: &[u8], seen: &mut [bool; TYPES]) -> Option<UpdateFault>
     requires { seen.old ≡ replicate 256 false }
     ensures fault { result ≡ section_fault_of section.now }
@@ -44,8 +44,8 @@ pub(crate) fn find_fault(section: &[u8], seen: &mut [bool; TYPES]) -> Option<Upd
     Some(UpdateFault::MalformedAttributeList)
 }
 
-// The fault of one attribute, where `seen` tells which types stood earlier. It is part of the loop over a
-// section: as a call it would build a whole row of the table of types for each attribute.
+// The fault of one attribute; `seen` says which types stood earlier. This function is inlined into the loop over a
+// section. As a call it would build a whole row of the table of types for each attribute.
 #[inline(always)]
 fn item_fault(seen: &[bool; TYPES], item: &Item) -> Option<UpdateFault>
     ensures { result ≡ (if slice_index_or seen.now item.now.kind false then Some MalformedAttributeList
@@ -57,7 +57,8 @@ fn item_fault(seen: &[bool; TYPES], item: &Item) -> Option<UpdateFault>
     own_fault(AttributeType::of(item.kind), item.flags, item.value)
 }
 
-// The fault of one attribute by its own tests: class, flags, length, value. Part of its callers' loops, too.
+// The fault that an attribute's own tests find: class, flags, length, value. This function is inlined into its
+// callers' loops too.
 #[inline(always)]
 pub(crate) fn own_fault(kind: AttributeType, flags: Flags, value: &[u8]) -> Option<UpdateFault>
     ensures { result ≡ first_fault (tests_of kind flags.octet value.now) }

@@ -27,11 +27,11 @@ const OPTIONAL_TRANSITIVE: u8 = 0xC0;
 
 const OPTIONAL_TRANSITIVE_PARTIAL: u8 = 0xE0;
 
-// Added where the length takes two octets.
+// Added if the length takes two octets.
 const EXTENDED_LENGTH: u8 = 0x10;
 
-/// Appends the written form of `attributes` to `out`, at most 4,073 octets. Refused, `out` is as before.
-/// Where the capacity of `out` has room, it takes no memory and succeeds.
+/// Appends the written form of `attributes` to `out`, at most 4,073 octets. If memory is refused, `out` is
+/// unchanged. If the capacity of `out` has room, the call takes no memory and succeeds.
 pub fn write_attributes(attributes: &Attributes, out: &mut Vec<u8>) -> Result<(), AllocError>
     ensures ok { OnOk result (out.new.items ≡ out.old.items ++ written attributes.now) }
     ensures bound { length (written attributes.now) ≤ 4073 }
@@ -55,8 +55,8 @@ pub(crate) fn spell(alloc: Global, section: &[u8], found: &Found<'_>) -> Result<
     Ok(out)
 }
 
-// Appends an attribute as it is written, where there is one and it is kept: its flags are those of its type,
-// and one that is passed on without being recognized has its Partial bit set (RFC 4271, section 5).
+// Appends an attribute as it is written, if there is one and its type is not dropped. Its flags are those of its
+// type. An unrecognized attribute that is passed on has its Partial bit set (RFC 4271, section 5).
 fn push_kept(out: &mut Vec<u8>, item: Option<Item<'_>>) -> Result<(), AllocError>
     requires { ForSome item IsSpellable }
     ensures { OnOk result (out.new.items
@@ -84,7 +84,7 @@ fn push_kept(out: &mut Vec<u8>, item: Option<Item<'_>>) -> Result<(), AllocError
     }
 }
 
-// Appends an unrecognized attribute where it is passed on.
+// Appends an unrecognized attribute if it is passed on.
 fn push_passed_on(out: &mut Vec<u8>, item: Item<'_>) -> Result<(), AllocError>
     requires { IsSpellable item }
     ensures { OnOk result (out.new.items ≡ out.old.items ++ spelled_kept (kept_by Optional (item_of item.entry))) }
@@ -107,7 +107,7 @@ fn optional_transitive(partial: bool) -> u8
     }
 }
 
-// Appends an attribute: Extended Length stands exactly where the value is longer than 255 octets.
+// Appends an attribute. Extended Length is set exactly if the value is longer than 255 octets.
 fn push_item(out: &mut Vec<u8>, flags: u8, kind: u8, value: &[u8]) -> Result<(), AllocError>
     requires plain { IsPlain flags }
     requires short { length value.now < 65536 }

@@ -12,7 +12,7 @@ use crate::section::{TYPES, own_fault};
 use rs_types::{AttributeType, Handling, Item, UpdateFault, split_item};
 use std::alloc::{AllocError, Global};
 
-/// The strongest of what a section asks for. It reads each octet once and takes no memory.
+/// The strongest handling that a section asks for. It reads each octet once and takes no memory.
 pub(crate) fn section_handling(section: &[u8]) -> Handling
     ensures { result ≡ strongest_in section.now }
 {
@@ -33,7 +33,7 @@ pub(crate) fn section_handling(section: &[u8]) -> Handling
     )
 }
 
-// What one attribute asks for, where `seen` tells which types stood earlier.
+// The handling that one attribute asks for; `seen` says which types stood earlier.
 fn item_handling(seen: &[bool; TYPES], item: &Item) -> Handling
     ensures { result ≡ (if slice_index_or seen.now item.now.kind false then handling_again (type_of item.now.kind)
         else handling_of_own (type_of item.now.kind) (own_fault_of (item_of item.now))) }

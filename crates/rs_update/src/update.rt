@@ -27,7 +27,7 @@ use byteorder::{BigEndian, ByteOrder};
 use rs_types::{Attributes, Handling, UpdateFault};
 use std::alloc::{AllocError, Global};
 
-/// The fields of an UPDATE, as they stand in it.
+/// The fields of an UPDATE, at their places in it.
 #[derive(Clone, Copy)]
 pub(crate) struct UpdateFields<'a> {
     /// Withdrawn Routes.
@@ -71,7 +71,7 @@ fn lacks_mandatory(fields: UpdateFields<'_>, found: &Found<'_>) -> bool
     !fields.nlri.is_empty() && !found.has_mandatory()
 }
 
-// The attributes of the announced routes, or None where none is announced.
+// The attributes of the announced routes, or None if none is announced.
 fn announced_attributes(
     alloc: Global,
     fields: UpdateFields<'_>,
@@ -128,7 +128,7 @@ fn read_update(alloc: Global, body: &[u8]) -> Result<Update, MessageFault>
 enum Treatment {
     // They are treated as withdrawn.
     Withdrawn,
-    // They stand, with attributes where any is announced.
+    // They count, with attributes if any route is announced.
     Stands(Option<Attributes>),
 }
 
@@ -157,8 +157,8 @@ fn standing_attributes(
     }
 }
 
-// The attributes that a section gives announced routes without those that are discarded, or None where a
-// mandatory one misses.
+// The attributes that a section gives announced routes, without those that are discarded. None if a mandatory
+// attribute is missing.
 fn kept_attributes(
     alloc: Global,
     section: &[u8],

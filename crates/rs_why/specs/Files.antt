@@ -1,4 +1,5 @@
--- What a failed read of a recorded file ends the program with (docs/LOOKING_GLASS.md, "Statuses and texts"); ours.
+-- How the program ends after a failed read of a recorded file (docs/LOOKING_GLASS.md, "Statuses and texts"); our
+-- choice.
 use Rattle.std.specs.Prelude.{◌≡◌, ⊤, ℕ, List, Option, None, Some, slice_get}
 use Rattle.std.specs.Prelude.{option_map, string_bytes}
 use Rattle.rs_glass.specs.declared.fault.GlassFault.{GlassFault}
@@ -13,7 +14,7 @@ NamesFile path (Unread named) = string_bytes named ≡ path
 NamesFile path Memory = ⊤
 NamesFile path unanswered = ⊥
 
--- the recorded file of a peer is named; where there is none, nothing is
+-- the recorded file of a peer is named; if there is no file, nothing is
 abbrev pub NamesFileOf : Option (List ℕ) → Unanswered → Type 0
 NamesFileOf (Some path) unanswered = NamesFile path unanswered
 NamesFileOf None unanswered = unanswered ≡ Memory

@@ -37,7 +37,7 @@ where
     explained(rt, query, &setup, &outlines)
 }
 
-// The same of a setup. The outlines of the files are made too.
+// The answer about a prefix over the files of a setup. The outlines of the files are made too.
 fn explained<R: AllocGlobal + Files + Threads + Sync>(
     rt: &R,
     query: &WhyQuery,
@@ -146,7 +146,7 @@ fn write_picture<R: AllocGlobal + Files>(
     write_whole(rt, path, &picture)
 }
 
-// What is asked of the recorded sessions: of an address, about the longest prefix with a route that covers it; where
+// What is asked of the recorded sessions: of an address, about the longest prefix with a route that covers it; if
 // there is none, about the address alone.
 fn asked<R: AllocGlobal + Files + Threads + Sync>(
     rt: &R,
@@ -181,7 +181,8 @@ fn host(address: u32) -> Prefix {
     }
 }
 
-// Refuses a question about an address where a file gives its octets only once: it is read twice for that.
+// Refuses a question about an address if a file gives its octets only once: the file is read twice for such a
+// question.
 fn refuse_read_once<R: AllocGlobal + Files>(
     rt: &R,
     setup: &Setup,
@@ -265,7 +266,7 @@ where
     }
 }
 
-// Has a history begin at a time, where one is given, and notes what the client gets before that.
+// Has a history begin at a time, if one is given, and notes what the client gets before that.
 fn show_from(history: &mut History, from: Option<u32>) {
     let Some(from) = from else {
         return;

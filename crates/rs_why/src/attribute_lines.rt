@@ -11,7 +11,7 @@ use std::net::Ipv4Addr;
 // How far the lines are indented.
 const INDENT: usize = 6;
 
-// A line for each path attribute of a route, in ascending order of their types: its name, or its type where it is not
+// A line for each path attribute of a route, in ascending order of their types: its name, or its type if it is not
 // recognized, and its value.
 pub(crate) fn attribute_lines(
     alloc: Global,
@@ -66,7 +66,7 @@ fn add_line(text: &mut String, name: &str, value: &str) -> Result<(), AllocError
     text.push('\n')
 }
 
-// Adds the line of a list, where it has an element.
+// Adds the line of a list, if it has an element.
 fn add_list(text: &mut String, name: &str, list: &str) -> Result<(), AllocError> {
     if list.is_empty() {
         return Ok(());

@@ -120,8 +120,8 @@ fn absent_text(alloc: Global, it: &Answered<'_>) -> Result<String, AllocError> {
     }
 }
 
-// That a peer never announced a route: since when that is known, and why its session closed, where that was not at the
-// end of its file. A recording that begins later says nothing.
+// That a peer never announced a route: since when that is known. If its session closed before the end of its file,
+// it is also said why. A recording that begins later says nothing.
 fn never_text(alloc: Global, it: &Answered<'_>) -> Result<String, AllocError> {
     let mut text = String::from_str(alloc, "never announced")?;
     match it.start {
@@ -189,7 +189,7 @@ fn close_value(alloc: Global, reason: Option<Reason>) -> Result<Value, AllocErro
     }
 }
 
-// Why a session closed, where that was not at the end of its file.
+// Why a session closed, if that was not at the end of its file.
 pub(crate) fn fault_of(said: &Said) -> Option<Reason> {
     match said.close {
         Some(Reason::EndOfFile) => None,

@@ -46,7 +46,7 @@ impl Clock {
         }
     }
 
-    // With the time since when a recording runs, where that is known.
+    // With the time since when a recording runs, if that is known.
     pub(crate) fn with_start(self, start: Option<Start>) -> Clock {
         match start {
             Some(start) => self.with(start.time()),
@@ -68,7 +68,7 @@ impl Clock {
         }
     }
 
-    // The same, with its microseconds in six digits where they are known.
+    // A time with its microseconds in six digits, if they are known.
     pub(crate) fn text_to_microseconds(
         self,
         alloc: Global,
@@ -82,7 +82,7 @@ impl Clock {
         Ok(text)
     }
 
-    // Adds to a head line how the times below it are shown: with the day where all are of one, and in UTC.
+    // Adds to a head line how the times below it are shown: with the day if all are of one, and in UTC.
     pub(crate) fn add_day(self, text: &mut String) -> Result<(), AllocError> {
         match self {
             Clock::OneDay(time) => {

@@ -24,9 +24,9 @@ const MICROSECONDS_WIDTH: usize = 7;
 pub struct HistoryView<'a> {
     /// The exchange, whose peers are named.
     pub plan: &'a Exchange,
-    /// From when on changes are shown, in seconds since 1970, where that was asked for.
+    /// From when on changes are shown, in seconds since 1970, if that was asked for.
     pub from: Option<u32>,
-    /// Up to when records were read, in seconds since 1970, where that was asked for.
+    /// Up to when records were read, in seconds since 1970, if that was asked for.
     pub until: Option<u32>,
     /// Whether the ends of files are shown.
     pub ends: bool,
@@ -45,8 +45,8 @@ impl HistoryView<'_> {
     }
 }
 
-/// The history as a text of several lines: for each thing that happened the time, the peer, whose route the
-/// client gets from then on where one is asked for, and what happened. Fails where memory is refused.
+/// The history as a text of several lines: for each thing that happened the time, the peer, whose route the client
+/// gets from then on if one is asked for, and what happened.
 pub fn history_text(
     alloc: Global,
     view: &HistoryView<'_>,
@@ -62,7 +62,7 @@ pub fn history_text(
     rows.take()
 }
 
-/// The history as one JSON object on one line, with a line break behind it. Fails where memory is refused.
+/// The history as one JSON object on one line, with a line break behind it.
 pub fn history_json(
     alloc: Global,
     view: &HistoryView<'_>,
@@ -134,7 +134,7 @@ fn hand_change(row: &mut RowWriter<'_>, view: &HistoryView<'_>, clock: Clock, on
     }
 }
 
-// Hands over when a thing happened: as it is shown, to the microsecond where that is known, or in seconds.
+// Hands over when a thing happened: as it is shown, to the microsecond if that is known, or in seconds.
 fn hand_time(row: &mut RowWriter<'_>, clock: Clock, one: &Gets) {
     let alloc = row.alloc();
     if row.form() == Form::Json {
@@ -178,7 +178,7 @@ fn hand_event(row: &mut RowWriter<'_>, view: &HistoryView<'_>, event: &Event) {
     }
 }
 
-// What happened, in words; the attributes of an announcement are left out where they have lines of their own.
+// What happened, in words; the attributes of an announcement are left out if they have lines of their own.
 pub(crate) fn event_text(
     alloc: Global,
     view: &HistoryView<'_>,
@@ -205,7 +205,7 @@ pub(crate) fn event_text(
     }
 }
 
-// What ends where a file does: with a time up to which records are read, it may be the part that is read.
+// What ends at the end of a file. If there is a time up to which records are read, it may be the part that is read.
 fn end_text(until: Option<u32>) -> &'static str {
     match until {
         None => "end of the file",
@@ -213,7 +213,7 @@ fn end_text(until: Option<u32>) -> &'static str {
     }
 }
 
-// How wide the microseconds are that are shown: a point and six digits, where there are any.
+// How wide the microseconds are that are shown: a point and six digits, if there are any.
 fn microseconds_width(view: &HistoryView<'_>, history: &History) -> usize {
     for gets in &history.events {
         if view.shows(gets) && gets.microseconds.is_some() {
@@ -231,7 +231,7 @@ pub(crate) fn time_of(one: &Gets) -> Option<u32> {
     }
 }
 
-// The title of the column of what the client gets, as `b gets`; empty where no client is asked for.
+// The title of the column of what the client gets, as `b gets`; empty if no client is asked for.
 pub(crate) fn gets_title(
     alloc: Global,
     plan: &Exchange,
@@ -264,7 +264,7 @@ fn clock_of(view: &HistoryView<'_>, history: &History) -> Clock {
     clock
 }
 
-// Hands over the first line of the text, and the second where something before it counts.
+// Hands over the first line of the text, and the second if something before it counts.
 fn hand_head(rows: &mut RowWriter<'_>, view: &HistoryView<'_>, history: &History, clock: Clock) {
     let alloc = rows.alloc();
     rows.sentence(head(alloc, view, history, clock));

@@ -5,6 +5,8 @@
 //! has each peer's route, or not). `history_answer` (what happened). The same as a picture: `lives` (how long routes
 //! stood), `fates` (what becomes of them), `picture`, `picture_lanes` and `canvas`. Below them `starts` (since when
 //! recordings run), `treatment` (a faulty UPDATE), `clock` (times), `attribute_lines` and `attribute_fields`.
+//!
+//! A call that allocates fails if memory is refused.
 #![tactic(auto)]
 
 mod answering;

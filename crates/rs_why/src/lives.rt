@@ -9,7 +9,7 @@ use std::alloc::{AllocError, Global};
 pub(crate) struct Life {
     /// From when on, in seconds since 1970.
     pub(crate) from: u32,
-    /// Up to when; none where it goes on behind all that happened.
+    /// Up to when; none if it goes on behind all that happened.
     pub(crate) to: Option<u32>,
     /// Which event announced the route.
     pub(crate) announced: usize,
@@ -63,7 +63,7 @@ fn none_yet(alloc: Global, peers: usize) -> Result<Vec<PeerLives>, AllocError> {
     Ok(all)
 }
 
-// Takes what happened to a peer. Where its file ends, its route stands on.
+// Takes what happened to a peer. If its file ends, its route stands on.
 fn take_event(all: &mut [PeerLives], place: usize, gets: &Gets) -> Result<(), AllocError> {
     let Some(one) = all.get_mut(gets.peer) else {
         return Ok(());

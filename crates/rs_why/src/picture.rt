@@ -154,7 +154,7 @@ fn add_word(text: &mut String, word: &str, (x, base): (u32, u32)) -> Result<(), 
     write!(text, "<text x=\"{x}\" y=\"{base}\">{word}</text>")
 }
 
-// Adds the line of the peers without a lane: their names where they are few, else how many they are.
+// Adds the line of the peers without a lane: their names if they are few, else how many they are.
 fn add_others(text: &mut String, canvas: &Canvas<'_>, top: u32) -> Result<(), AllocError> {
     let others = canvas.others();
     if others == 0 {

@@ -12,8 +12,8 @@ use rs_picture::{add_mark, add_stretch, add_text};
 use rs_session::Reason;
 use std::alloc::AllocError;
 
-// How far below the top of its lane a bar begins, and how high it is: one of a route that the client gets, of one that
-// it does not get, of one that it may not get, and of its own.
+// How far below the top of its lane a bar begins, and how high the bar is. There are bars of a route that the client
+// gets, that it does not get, that it may not get, and of its own route.
 const BAR: (u32, u32) = (24, 20);
 
 const THIN_BAR: (u32, u32) = (30, 8);
@@ -27,12 +27,12 @@ const TICK_TOP: u32 = 22;
 
 const TICK: (u32, u32) = (2, 24);
 
-// The same of the mark of a close.
+// Where the mark of a close is in its lane.
 const CLOSE_TOP: u32 = 28;
 
 const CLOSE: (u32, u32) = (12, 12);
 
-// The same of the mark of a withdrawal.
+// Where the mark of a withdrawal is in its lane.
 const OPEN_TOP: u32 = 29;
 
 const OPEN: (u32, u32) = (10, 10);
@@ -43,7 +43,7 @@ const LOSS: u32 = 34;
 // A cross around its centre.
 const CROSS: &str = "M-7,-4l3,-3 4,4 4,-4 3,3 -4,4 4,4 -3,3 -4,-4 -4,4 -3,-3 4,-4z";
 
-// How wide a letter is at most, and what stands beside a text on a bar.
+// How wide a letter is at most, and how much room a text on a bar needs at its sides.
 const LETTER: u32 = 11;
 
 const BESIDE: u32 = 12;
@@ -107,7 +107,7 @@ fn add_choices(
     Ok(())
 }
 
-// Adds the name of the sender on its bar, where there is room for it.
+// Adds the name of the sender on its bar, if there is room for it.
 fn add_sender(
     text: &mut String,
     canvas: &Canvas<'_>,
@@ -181,7 +181,7 @@ fn add_route_of(
     text.push_str("</g>\n")
 }
 
-// Whether a time is shown: where it has any length on the axis, or begins there with an announcement.
+// Whether a time is shown: if it has any length on the axis, or begins there with an announcement.
 fn is_drawn(canvas: &Canvas<'_>, life: &Life) -> bool {
     let (first, end) = (canvas.axis.first, end_of(canvas, life));
     end > life.from.max(first) || (life.begins && life.from >= first)
@@ -205,7 +205,7 @@ fn add_life(
     add_stretch(text, class, &canvas.axis, times, bar)
 }
 
-// Adds the mark of an announcement, or of a choice, where its time is shown.
+// Adds the mark of an announcement, or of a choice, if its time is shown.
 fn add_tick(text: &mut String, canvas: &Canvas<'_>, time: u32, top: u32) -> Result<(), AllocError> {
     if time < canvas.axis.first {
         return Ok(());

@@ -27,8 +27,8 @@ impl Start {
     }
 }
 
-// Since when the recording of each peer runs that never announced a route; none of the others, of a file that is read
-// only once and of one without a record.
+// Since when the recording of each peer runs that never announced a route. There is no time for other peers. There
+// is none either for a file that is read only once, or for one without a record.
 pub(crate) fn starts<R: AllocGlobal + Files>(
     rt: &R,
     setup: &Setup,
@@ -65,7 +65,7 @@ fn start_of<R: AllocGlobal + Files>(
     }
 }
 
-// The Timestamp of the first record of a file; none where the file is read only once, or has none.
+// The Timestamp of the first record of a file; none if the file is read only once, or has none.
 fn first_time<R: AllocGlobal + Files>(rt: &R, path: &str) -> Result<Option<u32>, Unanswered> {
     match found_at(rt, path)? {
         Some(found) if found.is_file() => {}

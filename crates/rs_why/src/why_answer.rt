@@ -24,7 +24,7 @@ const AS_WIDTH: usize = 12;
 
 const ANSWER_WIDTH: usize = 11;
 
-/// What is shown of answers, beside them.
+/// What is shown together with the answers.
 #[derive(Clone, Copy)]
 pub struct WhyView<'a> {
     /// The exchange, whose peers are named.
@@ -35,7 +35,7 @@ pub struct WhyView<'a> {
     pub(crate) starts: &'a [Option<Start>],
     /// What is known of the recorded files.
     pub(crate) known: &'a Known,
-    /// Up to when records were read, in seconds since 1970, where that was asked for.
+    /// Up to when records were read, in seconds since 1970, if that was asked for.
     pub until: Option<u32>,
     /// Whether each peer that never announced the prefix has a line of its own.
     pub all: bool,
@@ -49,7 +49,7 @@ impl WhyView<'_> {
         *self.starts.get(peer)?
     }
 
-    // The route that a peer has left on a prefix; none where no peer has this number.
+    // The route that a peer has left on a prefix; none if no peer has this number.
     fn route(&self, peer: usize, prefix: Prefix) -> Option<Route<'_>> {
         if peer < self.tables.count() {
             self.tables.route(peer, prefix)
@@ -60,9 +60,9 @@ impl WhyView<'_> {
 }
 
 /// The answers as a text of several lines. It begins with what the client gets. For each other peer it gives the AS,
-/// the time at which the peer's route was announced or taken away, the answer and the reason. The peer whose route the
-/// client gets comes first. Where several peers never announced the prefix, one line counts them, unless all are asked
-/// for. Fails where memory is refused.
+/// the time at which the peer's route was announced or taken away, the answer and the reason. The peer whose route
+/// the client gets comes first. If several peers never announced the prefix, one line counts them, unless all are
+/// asked for.
 pub fn why_text(
     alloc: Global,
     view: &WhyView<'_>,
@@ -80,7 +80,7 @@ pub fn why_text(
     rows.take()
 }
 
-/// The answers as one JSON object on one line, with a line break behind it. Fails where memory is refused.
+/// The answers as one JSON object on one line, with a line break behind it.
 pub fn why_json(
     alloc: Global,
     view: &WhyView<'_>,

@@ -12,7 +12,7 @@ use Rattle.rs_worker.specs.declared.crew.Job.{Job}
 use Rattle.rs_worker.specs.declared.crew.Joined.{Joined}
 use Rattle.rs_worker.specs.declared.crew.WorkerOf.{WorkerOf}
 
--- what a worker is charged with: whose records it reads, how it handles faults, and through which ring it sends
+-- the work of a worker: whose records it reads, how it handles faults, and through which ring it sends
 pub record Charge (S : Type 0) : Type 0 where
   pub source : S
   pub peer : PeerId
@@ -26,18 +26,19 @@ abbrev pub charged : {S : Type 0} → WorkerOf S → Charge S
 charged promise =
     record { source = promise.source.value; peer = promise.id; errors = promise.errors; ring = promise.out.value.ring }
 
--- what the session may give with which a worker is charged
+-- the changes that may come from the session of a worker
 abbrev pub given_by : {S : Type 0} → Comes S → (S → Option MrtRecord) → Charge S → MayGive
 given_by comes shows charge = May comes shows (fresh charge.source charge.peer charge.errors)
 
--- what a worker sent, and how many changes these are; where it settled, they are what was received
+-- The changes that a worker sent, and how many they are. If the worker settled, they are the changes that were
+-- received.
 pub record HasJoined (may : MayGive) (received : List Word) (end : Joined) : Type 0 where
   pub sent : List Word
   pub sends : HasSent may sent end.reason end.passed
   pub counted : end.changes ≡ length sent
   pub settles : end.settled ≡ true → received ≡ sent
 
--- each worker sent what its session may give, and what it tells of that is so of its peer's receiver
+-- each worker sent what may come from its session; if it settled, its peer's receiver received all of it
 abbrev pub AllJoined : {S : Type 0} → Comes S → (S → Option MrtRecord) → List (Charge S) → List (Receiving Word)
     → List Joined → Type 0
 AllJoined {S = S} comes shows charges from ends =

@@ -1,4 +1,4 @@
--- What workers send:
+-- The changes that workers send:
 pub mod Worked  -- one worker
 pub mod Steps  -- one step of it
 pub mod Crew  -- all of them

@@ -10,14 +10,14 @@ use Rattle.rs_change.specs.declared.word.Reason.TheVariants as reasons
 use Rattle.rs_change.specs.declared.word.Word.{Word}
 use Rattle.rs_worker.specs.Worked.{is_memory}
 
--- why a session ends with a change, where it does
+-- the reason for which a change closes its session, if it is a close
 abbrev pub reason_of : Body → Option Reason
 reason_of (Close reason) = Some reason
 reason_of (Announce prefix attributes) = None
 reason_of (Withdraw prefix) = None
 reason_of Down = None
 
--- something is still to come, though no change is given
+-- the session is not over, but no change is given
 pub record IsUnfinished {S : Type 0} (comes : Comes S) (shows : S → Option MrtRecord) (old : Stage S)
     (passed : ℕ) : Type 0 where
   pub rest : List Change
@@ -26,14 +26,14 @@ pub record IsUnfinished {S : Type 0} (comes : Comes S) (shows : S → Option Mrt
   pub some_rest : 1 ≤ length rest
   pub passed_within : passed ≤ total
 
--- a change that doesn't close is the next one of an open session
+-- the session is open, and its next change is not a close
 pub record GoesOn {S : Type 0} (comes : Comes S) (shows : S → Option MrtRecord) (room : S → ℕ) (old new : Stage S)
     (word : Word) : Type 0 where
   pub keeps : KeepsBehind comes shows (change_of word) old new
   pub unclosed : new.closed ≡ false
   pub fewer : most_changes room shows new + 1 ≤ most_changes room shows old
 
--- a change that closes is the last one of the session; or memory is refused, and it tells so
+-- the session ends with a close, or memory is refused and the close says so
 pub record Ends {S : Type 0} (comes : Comes S) (shows : S → Option MrtRecord) (old new : Stage S) (word : Word)
     (reason : Reason) : Type 0 where
   pub last : is_memory reason ≡ false → May comes shows old (change_of word ∷ []) new.passed

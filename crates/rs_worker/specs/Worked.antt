@@ -1,4 +1,4 @@
--- What a worker sends of a session, and what it tells of that.
+-- The changes that a worker sends of a session, and what it answers about them.
 use Rattle.std.specs.Prelude.{◌≡◌, ℕ, ◌≤◌, Bool, true, false, List, [], ◌∷◌, ◌++◌, length, map, IfSome}
 use Rattle.rs_ring.specs.Ends.{Ring, Sent}
 use Rattle.rs_ring.specs.Items.{has_close}
@@ -9,11 +9,11 @@ use Rattle.rs_change.specs.declared.word.Reason.TheVariants as reasons
 use Rattle.rs_change.specs.declared.word.Word.{Word}
 use Rattle.rs_worker.specs.declared.work.WorkerEnd.{WorkerEnd}
 
--- a session may give just these changes, the close being the last one, and pass over so many records
+-- a session may give these changes, of which the last is the close, and pass over so many records
 abbrev pub MayGive : Type 1
 MayGive = List Change → ℕ → Type 0
 
--- one that gives just these changes, and passes over just so many records
+-- a session that gives exactly these changes, and passes over exactly so many records
 abbrev pub just : List Change → ℕ → MayGive
 just whole total = λ changes passed. (changes ≡ whole) × (passed ≡ total)
 
@@ -26,8 +26,8 @@ is_memory other = false
 abbrev pub closes_any : List Word → Bool
 closes_any sent = has_close (λ one. is_close (change_of one)) sent
 
--- the changes are a beginning of what the session may give, without its close, and a close that tells of the
--- want of memory
+-- the changes are the first that the session may give, without its close, and then a close that says that memory was
+-- refused
 pub record IsCutShort (may : MayGive) (changes : List Change) (passed : ℕ) : Type 0 where
   pub given : List Change
   pub rest : List Change
@@ -37,8 +37,8 @@ pub record IsCutShort (may : MayGive) (changes : List Change) (passed : ℕ) : T
   pub splits : changes ≡ given ++ close_at 0 reasons.Memory ∷ []
   pub passed_within : passed ≤ total
 
--- the changes sent: some that don't close, and then the close for this reason; they are all that the session
--- may give, or cut short
+-- The changes sent: some without a close, and then the close for this reason. They are all that the session may
+-- give, or the first of it.
 pub record HasSent (may : MayGive) (sent : List Word) (reason : Reason) (passed : ℕ) : Type 0 where
   pub before : List Word
   pub time : ℕ
@@ -47,8 +47,8 @@ pub record HasSent (may : MayGive) (sent : List Word) (reason : Reason) (passed 
   pub whole : is_memory reason ≡ false → may (map change_of sent) passed
   pub cut_short : is_memory reason ≡ true → IsCutShort may (map change_of sent) passed
 
--- what a worker answers: it tells how many changes it sent and why the last one closes, and its token, where
--- one came, shows them
+-- What a worker answers: how many changes it sent, why the last one closes, and perhaps a token that shows the
+-- changes to the receiver.
 pub record HasWorked (may : MayGive) (ring : Ring) (end : WorkerEnd) : Type 0 where
   pub sent : List Word
   pub sends : HasSent may sent end.reason end.passed

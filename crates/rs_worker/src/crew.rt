@@ -42,7 +42,7 @@ impl<S: Source> Promise<WorkerEnd> for WorkerOf<S> {
         HasWorked (May S.comes S.shows (fresh p.source.value p.id p.errors)) p.out.value.ring end };
 }
 
-// Starts the worker of one peer. None where the system refuses a thread.
+// Starts the worker of one peer. None if the system refuses a thread.
 fn start_worker<'s, E, R: Wait + Sync, S: Source + Send + Drop + 's, G: Gate>(
     scope: &'s Scope<'s, E>,
     rt: &'s R,
@@ -74,7 +74,7 @@ fn start_worker<'s, E, R: Wait + Sync, S: Source + Send + Drop + 's, G: Gate>(
 /// of peer `k`. Answers whether all were started. It takes no memory but what the system takes for its
 /// threads.
 ///
-/// Where the system refuses a thread, no more are started: the handles are those of the first peers, and the
+/// If the system refuses a thread, no more are started: the handles are those of the first peers, and the
 /// other jobs are gone.
 pub fn start_workers<'s, E, R: Wait + Sync, S: Source + Send + Drop + 's, G: Gate>(
     scope: &'s Scope<'s, E>,
@@ -154,7 +154,7 @@ fn is_settled(from: &mut Receiver<Word>, token: Finished<Word>) -> bool
     from.after(&mut token) == 0
 }
 
-/// Joins workers in the order of the peers, and asks of each whether all that it sent was received: receiver
+/// Joins workers in the order of the peers, and finds out for each whether all that it sent was received. Receiver
 /// `k` is the one of peer `k`. It takes no memory.
 pub fn join_workers<S: Source>(
     rt: &impl Threads,

@@ -37,7 +37,7 @@ pub(crate) fn send_all<S: Source, G: Gate>(
     unreachable!()
 }
 
-// The next change of a session. Refused memory, it is the close that says so, which takes none.
+// The next change of a session. If memory is refused, it is a close with the reason `Memory`, which needs no memory.
 fn next_change<S: Source>(session: &mut Session<S>) -> Word
     requires { session.old.closed ≡ false }
     ensures { Takes S.comes S.shows S.room session.old session.new result (reason_of result.body) }
@@ -53,7 +53,7 @@ fn next_change<S: Source>(session: &mut Session<S>) -> Word
     }
 }
 
-// Why a session ends with this change, where it does.
+// The reason for which this change closes the session, if it is a close.
 fn closing_reason(word: &Word) -> Option<Reason>
     ensures { result ≡ reason_of word.now.body }
 {

@@ -17,7 +17,7 @@ use std::sync::Wait;
 /// What a worker answers.
 #[derive(Drop)]
 pub struct WorkerEnd {
-    /// Shows the receiver all that was sent: none comes where the receiver is gone.
+    /// A token that shows the receiver all that was sent; None if the receiver is gone.
     pub finished: Option<Finished<Word>>,
     /// How many records were passed over before the close.
     pub passed: u64,
@@ -27,12 +27,12 @@ pub struct WorkerEnd {
     pub reason: Reason,
 }
 
-/// Sends the changes that the source's session gives through a ring, one after another, and the close as the
-/// last one; then it ends the sending. Faults in messages are handled by one of the standards.
+/// Sends the changes that the source's session gives through a ring, one after another, and the close as the last
+/// one. Then it ends the sending. Faults in messages are handled by one of the standards.
 ///
-/// It passes the gate once for each change, before the first try to send it, and tries again while the ring
-/// is full. Where the session is refused memory, the close that says so takes the place of the next change,
-/// which takes no memory. After a failed read the close says so.
+/// It passes the gate once for each change, before the first try to send it, and tries again while the ring is full.
+/// If the session is refused memory, the close with the reason `Memory` takes the place of the next change, and
+/// needs no memory. After a failed read the close has the reason `Read`.
 pub fn worker_by<S: Source + Drop, G: Gate>(
     rt: &impl Wait,
     alloc: Global,

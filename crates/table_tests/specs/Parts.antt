@@ -6,18 +6,18 @@ use Rattle.rs_choice.specs.Plan.{Plan}
 use Rattle.rs_table.specs.Content.{RibContent, TablesContent, rib_of, rib_left}
 use Rattle.rs_table.specs.Left.{HasNoClose, body_prefix}
 
--- a change on a prefix is on one of this length
+-- a change on a prefix of this length, or on no prefix
 abbrev pub IsOnLength : ℕ → Change → Type 0
 IsOnLength len change = (prefix : IpPrefix) → body_prefix change.body ≡ Some prefix → prefix.len ≡ len
 
--- what is held of a peer is what such changes leave, none of which is a close
+-- the content of a peer is what changes on prefixes of this length leave; none of them is a close
 pub record IsLeftOnLength (len : ℕ) (rib : RibContent) : Type 0 where
   pub changes : List Change
   pub on : All (IsOnLength len) changes
   pub unclosed : HasNoClose changes
   pub left_is : rib ≡ rib_left changes
 
--- tables of the plan, of which each peer's routes are such
+-- tables of the plan, in which each peer's content is left by changes on prefixes of this length
 pub record IsPart (plan : Plan) (len : ℕ) (tables : TablesContent) : Type 0 where
   pub plan_is : tables.plan ≡ plan
   pub ribs : (peer : ℕ) → IsLeftOnLength len (rib_of tables peer)

@@ -1,7 +1,7 @@
 //! Writes one dump to a writer that counts, and says how it went: for runs in which one allocation is
 //! refused, as `tools/refuse_each_allocation` makes them.
 //!
-//! Status 0 where the dump is written, which standard output says; 3 where memory was refused and nothing was
+//! Status 0 where the dump is written, which standard output says; 3 if memory was refused and nothing was
 //! written; 1 for anything else.
 #![tactic(auto)]
 

@@ -75,7 +75,7 @@ pub fn add_change(said: &mut String, change: &Word) -> Result<(), AllocError> {
     said.push_str("; ")
 }
 
-/// A ring of this capacity, or none where memory is refused.
+/// A ring of this capacity, or none if memory is refused.
 pub fn ring_of<T: Closing>(alloc: Global, capacity: usize) -> Option<(Sender<T>, Receiver<T>)>
     ensures ring { IfSome result (λ ends. ends.0.ring ≡ ends.1.ring) }
     ensures sender { IfSome result (λ ends. ends.0.sent ≡ []) }

@@ -13,8 +13,8 @@ use std::sync::Wait;
 use std::test::*;
 use std::thread::Threads;
 
-// A run in which a read of the second reader fails after so many octets of 506, and the first read of the last reader:
-// the least such peer is told.
+// A run in which a read of the second reader fails after so many octets of 506, and the first read of the last
+// reader. The answer names the first such peer.
 fn check_failed_read<R: Threads + Wait + Sync + Abort>(
     rt: &R,
     alloc: Global,

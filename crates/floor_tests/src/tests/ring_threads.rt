@@ -34,7 +34,7 @@ fn send_all(rt: &impl Wait, sender: Sender<Item>, count: u32) -> bool {
     send_waiting(rt, &mut sender, last(count))
 }
 
-// Receives up to the last item, and answers how many came where each has its place as its number and as its value.
+// Receives up to the last item, and answers how many came if each has its place as its number and as its value.
 fn receive_all(rt: &impl Wait, receiver: Receiver<Item>) -> Option<u32> {
     let mut receiver = receiver;
     let mut place = 0u32;

@@ -107,7 +107,7 @@ const RINGS: &[(usize, &str, &str)] = &[
         "s3 s4 r r s3 w",
         "0, full ring: 4, 0:3, nothing, 1, 1 wait, 2 sent",
     ),
-    // A closed ring is closed also where it is full, and where it is empty.
+    // A closed ring is closed also where it is full, and if it is empty.
     (
         2,
         "s5 l6 s7 r l8 r s9 r",
@@ -171,7 +171,7 @@ impl Counts {
         self.sent.wrapping_sub(self.received)
     }
 
-    // Sends the next item. Answers whether all is right: it is refused just where the ring is full.
+    // Sends the next item. Answers whether all is right: it is refused exactly if the ring is full.
     fn send(&mut self, ends: &mut Ends) -> bool {
         let (number, full) = (self.sent, self.waiting() >= self.capacity);
         match ends.send(item_at(number)) {
@@ -184,7 +184,7 @@ impl Counts {
         }
     }
 
-    // Receives an item. Answers whether all is right: it is the next one, and none comes just where none waits.
+    // Receives an item. Answers whether all is right: it is the next one, and none comes exactly if none waits.
     fn receive(&mut self, ends: &mut Ends) -> bool {
         let (number, empty) = (self.received, self.waiting() == 0);
         match ends.receiver.try_receive() {

@@ -59,8 +59,8 @@ const PARTS: &[&str] = &[
     "0 +203.0.0.0/8; 1 down; 2 Bgp { code: 3, subcode: 6 };",
 ];
 
-// The ends of the rings of two peers and three shards that the router doesn't hold, how many changes of each peer were
-// sent, and what each shard received of each peer.
+// The ends of the rings of two peers and three shards that the router doesn't own. Also how many changes of each
+// peer were sent, and what each shard received of each peer.
 #[derive(Drop)]
 struct Outside {
     peers: [Sender<Word>; 2],
@@ -91,7 +91,7 @@ impl Outside {
         })
     }
 
-    // Sends the next of a peer's changes, where there is one and room for it.
+    // Sends the next of a peer's changes, if there is one and room for it.
     fn send_next(&mut self, route: &Arc<Attributes>, peer: usize) -> Option<()> {
         let place = *self.sent.get(peer)?;
         let Some(word) = SAID.get(peer)?.split_whitespace().nth(place) else {
@@ -119,7 +119,7 @@ impl Outside {
         }
     }
 
-    // Receives an item for a shard, where one waits.
+    // Receives an item for a shard, if one waits.
     fn receive(&mut self, shard: usize) -> Option<()> {
         match self.shards.get_mut(shard)?.try_receive() {
             Some(Numbered { item, .. }) => self.take(shard, &item),

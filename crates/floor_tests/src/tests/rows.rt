@@ -148,7 +148,7 @@ fn add_rows(said: &mut String, tables: &Tables, client: usize) -> Result<(), All
     said.push('\n')
 }
 
-/// The rows of all clients, where there is memory to say them.
+/// The rows of all clients, if there is memory to say them.
 pub fn said_of_tables(alloc: Global, tables: &Tables) -> Option<String> {
     let mut said = String::new(alloc);
     for client in 0..tables.count() {
@@ -182,7 +182,7 @@ fn add_served(rt: &impl Abort, said: &mut String, served: &Served) -> Result<(),
     Ok(())
 }
 
-/// What comes of a run, where there is memory to say it.
+/// What comes of a run, if there is memory to say it.
 pub fn said_of_run(
     rt: &impl Abort,
     alloc: Global,
@@ -223,7 +223,7 @@ fn add_floor(rt: &impl Abort, said: &mut String, floor: &Floor) -> Result<(), Al
     Ok(())
 }
 
-/// What comes of a schedule, where there is memory to say it.
+/// What comes of a schedule, if there is memory to say it.
 pub fn said_of_schedule(
     rt: &impl Abort,
     alloc: Global,
@@ -292,7 +292,7 @@ impl Passes {
     }
 
     // Each of so many shards handled all that it was sent: the changes on its prefixes, every close and the last item.
-    // Where no worker came, some shards may not be there. A thread that is left would come to the gate after the
+    // If no worker came, some shards may not be there. A thread that is left would come to the gate after the
     // answer.
     fn are_complete(&self, shards: u64) -> bool {
         let workers = self.workers.load(Ordering::SeqCst);
@@ -319,7 +319,7 @@ impl Gate for Passes {
     }
 }
 
-/// What comes of a run with these numbers, of which no thread is left, where there is memory. Where no session is lost,
+/// What comes of a run with these numbers, of which no thread is left, if there is memory. If no session is lost,
 /// the gate shows that all was handled.
 pub fn threaded<R: Threads + Wait + Sync + Abort>(
     rt: &R,
@@ -338,7 +338,7 @@ pub fn threaded<R: Threads + Wait + Sync + Abort>(
     said_of_run(rt, alloc, answer)
 }
 
-// What comes of each run of a line is this, where there is memory.
+// What comes of each run of a line is this, if there is memory.
 fn check_runs<R: Threads + Wait + Sync + Abort>(
     rt: &R,
     alloc: Global,
@@ -357,7 +357,7 @@ fn check_runs<R: Threads + Wait + Sync + Abort>(
     Some(())
 }
 
-// What comes of each schedule of a line is this, where there is memory.
+// What comes of each schedule of a line is this, if there is memory.
 fn check_schedules(
     rt: &impl Abort,
     alloc: Global,
@@ -379,7 +379,7 @@ fn check_schedules(
     Some(())
 }
 
-// What comes of one way is what its lines say, where there is memory.
+// What comes of one way is what its lines say, if there is memory.
 fn check_way<R: Threads + Wait + Sync + Abort>(
     rt: &R,
     alloc: Global,
@@ -394,7 +394,7 @@ fn check_way<R: Threads + Wait + Sync + Abort>(
     }
 }
 
-// What comes of each way of a row is what it says, where there is memory.
+// What comes of each way of a row is what it says, if there is memory.
 fn check_row<R: Threads + Wait + Sync + Abort>(rt: &R, alloc: Global, row: &str) -> Option<()> {
     let (head, ways) = row.split_once("\nby ")?;
     let (name, line) = head.split_once('\n')?;
@@ -405,7 +405,7 @@ fn check_row<R: Threads + Wait + Sync + Abort>(rt: &R, alloc: Global, row: &str)
     Some(())
 }
 
-// What comes of each of these rows is what it says, where there is memory. Empty lines part them, and what begins with
+// What comes of each of these rows is what it says, if there is memory. Empty lines part them, and what begins with
 // # is a comment.
 fn check_rows<R: Threads + Wait + Sync + Abort>(rt: &R, alloc: Global, rows: &str) -> Option<()> {
     for row in rows.trim().split("\n\n") {
@@ -600,7 +600,7 @@ fn refused_memory_refuses_a_schedule(rt: HostRuntime) {
     let _ = check_rows(&rt, rt.alloc(), SCHEDULES);
 }
 
-// A run that is refused leaves its gate as it was, where no thread is refused.
+// A run that is refused leaves its gate as it was, if no thread is refused.
 fn check_refusal<R: Threads + Wait + Sync + Abort>(
     rt: &R,
     alloc: Global,

@@ -23,7 +23,7 @@ const SAID: &[(&str, u32, &str, u64)] = &[
     ),
 ];
 
-// The next change of a session, which is asked again where memory was refused; it has then passed over no record.
+// The next change of a session, which is asked again if memory was refused; it has then passed over no record.
 fn next_after_refusals<S: Source>(rt: &impl Abort, session: &mut Session<S>) -> Option<Word> {
     for _ in 0..4 {
         let passed = session.passed_over();
@@ -35,14 +35,14 @@ fn next_after_refusals<S: Source>(rt: &impl Abort, session: &mut Session<S>) -> 
     None
 }
 
-// The line of a change, where there is memory for it.
+// The line of a change, if there is memory for it.
 fn line_of(alloc: Global, change: &Word) -> Option<String> {
     let mut line = String::new(alloc);
     add_change(&mut line, change).ok()?;
     Some(line)
 }
 
-// The next change of a session is that of the line, where there is memory for its text.
+// The next change of a session is that of the line, if there is memory for its text.
 fn check_next<S: Source>(rt: &impl Abort, alloc: Global, session: &mut Session<S>, line: &str) {
     let change = next_after_refusals(rt, session).expect(rt, "a change");
     if let Some(found) = line_of(alloc, &change) {
@@ -66,7 +66,7 @@ fn check_session<S: Source + Drop>(
     assert_eq!(rt; session.passed_over(), passed);
 }
 
-// The octets of a file, where there is memory for them.
+// The octets of a file, if there is memory for them.
 fn file_of(alloc: Global, name: &str) -> Option<Vec<u8>> {
     octets(alloc, &[digits(name)?]).ok()
 }

@@ -115,7 +115,7 @@ fn add_best(
     write!(said, "{first} for {client} of {peer} at {time}; ")
 }
 
-// What tables hold, where there is memory to say it.
+// What tables hold, if there is memory to say it.
 fn said_of(alloc: Global, tables: &Tables) -> Option<String> {
     let mut said = String::new(alloc);
     for first in [10, 20, 30, 40, 50, 60] {
@@ -139,7 +139,7 @@ fn a_shard_holds_what_each_peer_has_left_up_to_its_close(rt: HostRuntime) {
     }
 }
 
-// How a shard ends that was sent all changes before it began, where there is memory to send them.
+// How a shard ends that was sent all changes before it began, if there is memory to send them.
 fn ended(rt: &impl Wait, alloc: Global) -> Option<ShardEnd> {
     let route = route_of(alloc)?;
     let tables = no_routes(alloc)?;

@@ -65,8 +65,8 @@ fn told(said: String, end: WorkerEnd, from: Receiver<Word>) -> Option<String>
     Some(said)
 }
 
-// What a worker of the peer sends through a ring of this capacity, which is received on another thread: it handles
-// faults by RFC 4271, which it is told or not.
+// What a worker of the peer sends through a ring of this capacity, which is received on another thread. The worker
+// handles faults by RFC 4271, by name or by default.
 fn sent<R: Threads + Wait + Sync, S: Source + Send + Drop>(
     rt: &R,
     alloc: Global,
@@ -199,7 +199,7 @@ fn line_at(number: usize, is_close: bool, reason: Reason) -> Option<&'static str
     SAID.get(place).copied()
 }
 
-// The line of a change, where there is memory for it.
+// The line of a change, if there is memory for it.
 fn line_of(alloc: Global, change: &Word) -> Option<String> {
     let mut line = String::new(alloc);
     add_change(&mut line, change).ok()?;

@@ -63,7 +63,7 @@ impl OutletAhead {
     }
 }
 
-// The writer of the dump of this name; none where memory is refused.
+// The writer of the dump of this name; none if memory is refused.
 fn writer(alloc: Global, faults: &Faults, name: &str) -> Option<NamedWriter>
     ensures { IfSome result (λ writer. writer.inner.failures ≡ 0) }
 {

@@ -266,7 +266,7 @@ fn a_report_passes_the_writers_of_the_program(rt: HostRuntime) -> Result<(), Fai
     Ok(())
 }
 
-// The limits of a reader that gives so many octets at a time, and fails after some where it fails.
+// The limits of a reader that gives so many octets at a time, and fails after some if it fails.
 fn in_pieces(piece: usize, octets_before_failure: Option<usize>) -> ReadLimits {
     ReadLimits {
         octets_before_failure,

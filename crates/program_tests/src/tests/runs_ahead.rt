@@ -192,7 +192,7 @@ fn run_ahead(
     })
 }
 
-// Appends the letters of dumps, a dash where there are none.
+// Appends the letters of dumps, a dash if there are none.
 fn push_letters(text: &mut String, word: &str, dumps: &[Kept]) -> Result<(), AllocError> {
     write!(text, " {word} ")?;
     for dump in dumps {

@@ -43,8 +43,9 @@ refuse_from = ["a"]
 file = "../c"
 "#;
 
-// What it sets up: the AS number, the address, the BGP Identifier and the subnet of the server; then of each peer the
-// name, the AS number, the address, the BGP Identifier, the preference, whose routes it refuses, and its file.
+// What it sets up. First the AS number, the address, the BGP Identifier and the subnet of the server. Then for each
+// peer the name, the AS number, the address, the BGP Identifier, the preference, whose routes it refuses, and its
+// file.
 const EVERY_KEY_SET_UP: &str = r#"64500 192.0.2.1 10.20.30.40 192.0.2.0/24
 a 4294967295 192.0.2.11 0.0.0.1 4294967295 ["c", "b", "c"] "recorded/a 1.mrt"
 b 1 255.255.255.255 0.0.0.0 0 [] ""

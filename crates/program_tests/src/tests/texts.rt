@@ -10,7 +10,7 @@ use std::alloc::Global;
 use std::fmt::Display;
 use std::test::Fail;
 
-// A text of a caller's in a fault; where memory is refused it is empty, and the test fails.
+// A text of a caller's in a fault; if memory is refused it is empty, and the test fails.
 fn key(alloc: Global) -> String {
     String::from_str(alloc, "server.as").unwrap_or(String::new(alloc))
 }

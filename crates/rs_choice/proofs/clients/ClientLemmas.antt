@@ -33,7 +33,7 @@ pub view_length : (plan : Plan) (held : List HeldRoute) (places : List ℕ) → 
     length (map (standing_of_held plan) (chosen_of held places)) ≡ length places
 view_length plan held places all = length-map (chosen_of held places) (standing_of_held plan) ∙ chosen_length held places all
 
--- the eligible routes, by what is held of each one
+-- the eligible routes, by what is stored of each one
 eligible_alike : (plan : Plan) (held : List HeldRoute) → All (IsJudged plan) held →
     filter (λ (one : HeldRoute). is_candidate one.candidacy) held
     ≡ filter (λ (one : HeldRoute). is_eligible plan one.peer one.attributes.value) held

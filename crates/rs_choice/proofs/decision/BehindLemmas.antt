@@ -1,6 +1,6 @@
--- A candidate that the first three steps remove is of no matter to the choice, nor is one that another of its neighbour AS outdoes, nor a
--- route that is no candidate.
--- For `those_behind_are_no_matter` of laws.rt, ContenderLemmas and StayLemmas.
+-- Candidates that do not matter to the choice: one that the first three steps remove, and one that another of its
+-- neighbour AS outdoes. A route that is no candidate doesn't matter either. For `those_behind_are_no_matter` of
+-- laws.rt, ContenderLemmas and StayLemmas.
 use Rattle.std.proofs.Common.{◌≡◌, ◌∙◌, sym, ap, refl, arith, ℕ, ◌<◌, Bool, true, false, cond, not, ◌⊎◌, inl, inr, List, [], ◌∷◌, ◌++◌}
 use Rattle.std.proofs.Common.{subst, Option}
 use Rattle.std.specs.Prelude.{◌==◌, nat_lt, filter, ◌||◌, ◌&&◌}

@@ -1,4 +1,5 @@
--- The entrants of chosen routes: how many there are, and that the standing of each is what is held of its route. For entrants.rt.
+-- The entrants of chosen routes: how many there are, and that the standing of each is the stored one. For
+-- entrants.rt.
 use Rattle.std.proofs.Common.{◌≡◌, ◌∙◌, sym, ap, ◌<◌, length, map, Some, ℕ, List, get_or}
 use Rattle.std.specs.Option.{option_map}
 use Rattle.std.specs.Prelude.{slice_get, IsTrue}

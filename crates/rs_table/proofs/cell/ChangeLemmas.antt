@@ -14,7 +14,7 @@ use Rattle.rs_table.proofs.cell.RowLemmas.{not_below}
 abbrev peer_of : HeldRoute → ℕ
 peer_of one = one.peer
 
--- held routes that ascend by peer
+-- stored routes in ascending order of their peers
 abbrev pub IsHeldRow : ℕ → ℕ → List HeldRoute → Type 0
 IsHeldRow from to held = IsRow from to (map sent_of_held held)
 

@@ -10,7 +10,7 @@ use Rattle.rs_table.specs.Cell.{AreHeld}
 use Rattle.rs_table.proofs.cell.MemberLemmas.{map-with, map-without, All-with}
 use Rattle.rs_table.proofs.cell.RowLemmas.{IsRow-with, IsRow-without, length-row}
 
--- the routes that are held after a change are those before, changed
+-- the routes stored after a change are those before, changed
 pub routes-with : (before held : List HeldRoute) (one : HeldRoute) → held ≡ with_one (λ one. one.peer) before one
     → map sent_of_held held ≡ with_route (map sent_of_held before) (sent_of_held one)
 routes-with before held one made = ap (map sent_of_held) made ∙ map-with (λ route. route.peer) sent_of_held before one

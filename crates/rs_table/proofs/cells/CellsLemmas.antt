@@ -127,7 +127,7 @@ removed_after m l n prefix w written removed q =
     ∙ elim (same_prefix q prefix) as (λ b. cond b None (cond b (Some w) (cell_at m.entries q)) ≡ cond b None (cell_at m.entries q))
     [ true ↦ refl | false ↦ refl ]
 
--- ---- what is held of each peer, by each peer's routes
+-- ---- the content of each peer, by its routes
 
 module _ (routes : ℕ → Routes) where
   pub by-at : (first : ℕ) (closed : List Bool) (k : ℕ) → k < length closed →
@@ -161,7 +161,7 @@ module _ (entries : Entries) where
             rw none (sym (ap (λ cell. route_at (routes_of cell) peer) no_cell))
       ]
 
-  -- what is held of the peers from one number on
+  -- the content of the peers from one number on
   pub rib-at : (first : ℕ) (closed : List Bool) (k : ℕ) → k < length closed →
       get_or (ribs_from entries first closed) k nothing_held
       ≡ record { routes = routes_from entries (first + k); closed = get_or closed k false }

@@ -27,7 +27,7 @@ use Rattle.rs_table.proofs.LeftLemmas.{get-after, left_more}
 use Rattle.rs_table.proofs.cells.CellsLemmas.{by-at, by-past, get-routes_from}
 use Rattle.rs_table.proofs.gathering.GatheredLemmas.{get-gathered}
 
--- ---- what is held of each peer
+-- ---- the content of each peer
 
 module _ (plan : Plan) (routes : ℕ → Routes) (closed : List Bool) where
   abbrev pub held : TablesContent

@@ -78,7 +78,7 @@ find-append q (x ∷ xs) ys e =
       | inr apart ↦ rw (apart) (find-append q xs ys (rw apart at e))
     ]
 
--- a prefix among no peer's entries is held by none
+-- no peer has left a route on a prefix that is among no peer's entries
 none_held : (q : IpPrefix) (ribs : List RibContent) → fin.find prefix_cmp q (flat_map (λ rib. fin.entries rib.routes) ribs) ≡ None
     → is_held ribs q ≡ false
 none_held q [] e = refl
@@ -146,7 +146,7 @@ module _ (f : IpPrefix → Option SentRoute) where
         | Some route ↦ (Below-rows p ps h.0, ascending-rows ps h.1)
       ]
 
--- rows for prefixes that ascend and leave out none that is held
+-- rows for prefixes that ascend, without leaving out one on which some peer has left a route
 pub rows-IsTable : (tables : TablesContent) (client : ℕ) (prefixes : List IpPrefix) → IsStrictlySortedBy prefix_cmp prefixes →
     ((q : IpPrefix) → list_any (same_prefix q) prefixes ≡ false → is_held tables.ribs q ≡ false)
     → IsTable tables client (filter_map (row_on (best_of tables client)) prefixes)

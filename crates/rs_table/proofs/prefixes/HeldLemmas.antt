@@ -27,7 +27,7 @@ use Rattle.rs_table.proofs.PrefixLemmas.{prefix_total, prefix_cmp-IsAntisymmetri
 use Rattle.rs_table.proofs.cells.CellsLemmas.{get-routes_from}
 use Rattle.rs_table.proofs.listing.TableLemmas.{ascending-keys, is_sorted-keys}
 
--- ---- a prefix that has a cell is held
+-- ---- on a prefix that has a cell, some peer has left a route
 
 module _ (entries : Entries) (prefix : IpPrefix) where
   held_from : (route : SentRoute) → (route_at (routes_of (cell_at entries prefix)) route.peer
@@ -59,7 +59,7 @@ module _ (entries : Entries) (prefix : IpPrefix) where
       let one = first_found (routes_in cell) (length plan.peers) is.held.row (omega (arith, is.some, length-map cell.held sent_of_held)) in
       held_from one.0 (ap (λ cell. route_at (routes_of cell) one.0.peer) found ∙ one.2) 0 closed (omega arith) (omega (arith, one.1, peers))
 
--- ---- which prefixes are held
+-- ---- prefixes on which peers have left routes
 
 any-append : {X : Type 0} (q : IpPrefix) (xs ys : List (IpPrefix × X))
     → is_some (fin.find prefix_cmp q (xs ++ ys)) ≡ (is_some (fin.find prefix_cmp q xs) || is_some (fin.find prefix_cmp q ys))

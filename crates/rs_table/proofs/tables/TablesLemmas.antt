@@ -132,7 +132,7 @@ module _ (entries others : Entries) (peer : ℕ) (change : Change) (to : ChangeT
       fin.same_map prefix_total prefix_cmp-IsAntisymmetric _ _
       (λ q. at_changed p q ∙ elim (eqb_tells peer p) [ inl same ↦ absurd (apart (sym same.1)) | inr other ↦ rw other.0 refl ])
 
-  -- the others keep all that is held of them
+  -- the content of the other peers stays
   pub rib-other : (closed later : List Bool) → length later ≡ length closed → (other : ℕ) → other ≢ peer
       → get_or later other false ≡ get_or closed other false →
       get_or (ribs_from others 0 later) other nothing_held ≡ get_or (ribs_from entries 0 closed) other nothing_held

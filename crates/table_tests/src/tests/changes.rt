@@ -54,7 +54,7 @@ pub fn change(alloc: Global, exchange: &Exchange, text: &str) -> Option<(usize, 
     Some((peer_of(exchange, name)?, word(alloc, rest)?))
 }
 
-/// Takes the next change of a peer, and answers whether memory sufficed; None where there is no such peer or its
+/// Takes the next change of a peer, and answers whether memory sufficed; None if there is no such peer or its
 /// session closed.
 pub fn take(tables: &mut Tables, peer: usize, word: Word) -> Option<bool> {
     if peer >= tables.count() || tables.is_closed(peer) {

@@ -16,7 +16,7 @@ fn are_known(exchange: &Exchange, candidates: &[Candidate]) -> bool
     candidates.iter().all(|candidate| candidate.peer < count)
 }
 
-// The place of the choice, where both bodies make the same.
+// The place of the choice, if both bodies make the same.
 fn choice(exchange: &Exchange, candidates: &[Candidate]) -> Option<Option<usize>> {
     if !are_known(exchange, candidates) || candidates.len() > MAX_PEERS {
         return None;

@@ -52,7 +52,7 @@ impl Write for Fixed {
     }
 }
 
-// Writes the dump of the list of a client's rows, and answers how many these are, where it has these octets. Refused
+// Writes the dump of the list of a client's rows, and answers how many these are, if it has these octets. Refused
 // memory, nothing is written, and it comes when asked again.
 fn list_dump(alloc: Global, asked: &Asked) -> Option<u32> {
     let (tables, client, time) = (&asked.tables, asked.client, asked.time);
@@ -72,7 +72,7 @@ fn list_dump(alloc: Global, asked: &Asked) -> Option<u32> {
     }
 }
 
-// The dump of a client's table before anything of it is written, begun once more where memory is refused.
+// The dump of a client's table before anything of it is written, begun once more if memory is refused.
 fn begun(alloc: Global, asked: &Asked) -> Option<TableDump<'_>> {
     let (tables, client, time) = (&asked.tables, asked.client, asked.time);
     if client >= tables.count() {
@@ -84,7 +84,7 @@ fn begun(alloc: Global, asked: &Asked) -> Option<TableDump<'_>> {
     }
 }
 
-// Writes the dump of a client's table, and answers how many rows it has, where it has these octets.
+// Writes the dump of a client's table, and answers how many rows it has, if it has these octets.
 fn table_dump<T: Threads + Sync>(rt: &T, dump: TableDump, wanted: &[u8]) -> Option<u32> {
     let mut writings = [Writing {
         dump,
@@ -135,7 +135,7 @@ fn is_dumped<T: Threads + Sync>(rt: &T, alloc: Global, asked: &Asked) -> Option<
     Some(table_dump(rt, dump, &asked.wanted) == Some(listed))
 }
 
-/// A row has its dumps after some changes. It is read once more where memory is refused.
+/// A row has its dumps after some changes. It is read once more if memory is refused.
 pub fn check_dump<T: Threads + Sync>(
     rt: &T,
     alloc: Global,

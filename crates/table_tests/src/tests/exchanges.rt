@@ -1,7 +1,7 @@
 //! Exchanges as text: the server, its peers, and the attributes of routes.
 //!
 //! An exchange is the server's AS and its subnet, if it has one, and behind each semicolon a peer: its name, AS,
-//! address, BGP Identifier and preference, which is 100 where none stands, and the names from which it refuses routes.
+//! address, BGP Identifier and preference, which is 100 if none stands, and the names from which it refuses routes.
 //! The server's address is 192.0.2.1. The attributes of a route are words, which WORDS spells.
 
 ghost use Rattle.std.specs.Prelude.{◌<◌, IfSome, length};
@@ -116,7 +116,7 @@ pub fn prefix(text: &str) -> Option<Prefix> {
     Prefix::new(address(front)?, len.parse::<u8>().ok()?)
 }
 
-// The server of an AS, with its subnet where one is given.
+// The server of an AS, with its subnet if one is given.
 fn server(text: &str) -> Option<Local> {
     let mut words = text.split_whitespace();
     Some(Local {

@@ -10,14 +10,14 @@ use std::alloc::Global;
 // The time at which each route came.
 const TIME: u32 = 100;
 
-// A route as it is held.
+// A route as it is stored.
 fn hold(alloc: Global, exchange: &Exchange, text: &str) -> Option<HeldRoute> {
     let (name, words) = text.trim().split_once(' ')?;
     let peer = peer_of(exchange, name)?;
     Some(exchange.hold(peer, TIME, attributes(alloc, words)?))
 }
 
-// The routes of a text as they are held, in their order.
+// The routes of a text as they are stored, in their order.
 fn hold_all(alloc: Global, exchange: &Exchange, text: &str) -> Option<Vec<HeldRoute>> {
     let mut all = Vec::new(alloc);
     for route in text.split(';') {

@@ -9,8 +9,8 @@ use rs_table::{Gathering, Tables};
 use std::alloc::Global;
 use std::test::Fail;
 
-// Three peers of AS 64501, so that MED decides between them, and one that refuses all routes of another, of an AS whose
-// number has the low eight bits of 64501.
+// Three peers of AS 64501, so that MED decides between them, and one that refuses all routes of another peer. That
+// other peer is of an AS whose number has the low eight bits of 64501.
 const SIX_PEERS: &str =
     "64500 192.0.2.0/24; a,64501,192.0.2.11,0.0.0.9; b,64501,192.0.2.12,0.0.0.4; \
     c,64502,192.0.2.13,0.0.0.5; d,64503,192.0.2.14,0.0.0.6; e,64501,192.0.2.15,0.0.0.1; f,64757,192.0.2.16,0.0.0.7,100,a";
@@ -20,8 +20,8 @@ const PEERS: [&str; 6] = ["a", "b", "c", "d", "e", "f"];
 // Prefixes in ascending order, of which two are inside a third.
 const PREFIXES: [&str; 4] = ["0.0.0.0/0", "10.0.0.0/8", "10.0.0.0/16", "203.0.113.0/24"];
 
-// Path lengths 1 and 2, three neighbour ASes, with and without MED, one refused to AS 64502, one to all, one for the
-// peers of AS 64501 and 64503 alone, one for those of AS 64757 alone, and one not eligible.
+// Path lengths 1 and 2, three neighbour ASes, with and without MED. One route is refused to AS 64502, and one to
+// all. One is for the peers of AS 64501 and 64503 alone, one for those of AS 64757 alone, and one is not eligible.
 const ROUTES: [&str; 10] = [
     "plain",
     "igp 64501-65010 hop-a med-10",
@@ -54,7 +54,7 @@ fn some_change(alloc: Global, random: &mut Random, time: u32) -> Option<String> 
     format!(in alloc; "{peer} {time} {said}{on} {words}").ok()
 }
 
-// Takes a change, where the peer is open, in tables and in the list of all changes.
+// Takes a change, if the peer is open, in tables and in the list of all changes.
 fn take_both(alloc: Global, tables: &mut Tables, history: &mut History, text: &str) -> Option<()> {
     let (peer, word) = change(alloc, tables.plan(), text)?;
     if tables.is_closed(peer) {
@@ -105,7 +105,7 @@ fn wrong_change(alloc: Global, random: &mut Random) -> Option<Result<(), (u32, u
     Some(Ok(()))
 }
 
-// Gathers a change, where the peer is open, and adds it to the list of all changes.
+// Gathers a change, if the peer is open, and adds it to the list of all changes.
 fn gather_both(
     alloc: Global,
     gathering: &mut Gathering,

@@ -33,7 +33,7 @@ fn text_of(alloc: Global, explanation: &Explanation) -> Option<String> {
     format!(in alloc; "Lost({step:?}, {loser}, {length}, {rival}, {to})").ok()
 }
 
-// What a client is told of a peer's route; none where `why` says something else.
+// The explanation of a peer's route to a client; None if `why` says something else.
 fn told_one(alloc: Global, tables: &Tables, client: &str, peer: &str) -> Option<String> {
     let (client, peer) = (
         peer_of(tables.plan(), client)?,
@@ -47,7 +47,7 @@ fn told_one(alloc: Global, tables: &Tables, client: &str, peer: &str) -> Option<
     text_of(alloc, &explanation)
 }
 
-// Adds what a client is told of a peer, whose names a question begins with.
+// Adds the explanation of a peer's route to a client, whose names a question begins with.
 fn add_told(alloc: Global, tables: &Tables, question: &str, text: &mut String) -> Option<()> {
     let mut words = question.split_whitespace();
     let (client, peer) = (words.next()?, words.next()?);

@@ -51,7 +51,7 @@ pub fn all_tables(alloc: Global, tables: &Tables) -> Option<String> {
 }
 
 // Takes a change, and once more where it is refused. Answers whether it came: where it was refused, it might be, and
-// nothing had changed. None where memory is refused for something else.
+// nothing had changed. None if memory is refused for something else.
 fn comes(alloc: Global, tables: &mut Tables, text: &str, may_be_refused: bool) -> Option<bool> {
     let before = all_tables(alloc, tables)?;
     if take_text(alloc, tables, text)? {
@@ -72,7 +72,7 @@ fn is_so(alloc: Global, tables: &mut Tables, row: &str) -> Option<bool> {
     Some(came && all_tables(alloc, tables)?.as_str() == wanted.trim())
 }
 
-// Takes all changes up to the first whose row is not so, which is the answer; an empty row where all are so.
+// Takes all changes up to the first whose row is not so, which is the answer; an empty row if all are so.
 fn wrong_row(alloc: Global) -> Option<&'static str> {
     let mut tables = after(alloc, FOUR_PEERS, "")?;
     for row in CHANGES.lines() {
@@ -103,7 +103,7 @@ const SETTLED: &str = "a[10.1.0.0/16 c 3, 10.4.0.0/16 c 9, 198.0.0.0/8 b 11] \
     c[10.0.0.0/8 a 12, 10.1.0.0/16 a 2, 10.3.0.0/16 a 5, 10.4.0.0/16 a 6, 198.0.0.0/8 b 11] \
     d[10.0.0.0/8 a 12, 10.1.0.0/16 a 2, 10.3.0.0/16 a 5, 10.4.0.0/16 a 6, 198.0.0.0/8 b 11]";
 
-// Gathers a change of a peer whose session is open. None where memory is refused.
+// Gathers a change of a peer whose session is open. None if memory is refused.
 fn gather(alloc: Global, plan: &Exchange, gathering: &mut Gathering, text: &str) -> Option<()> {
     let (peer, word) = change(alloc, plan, text)?;
     if peer >= gathering.count() || gathering.is_closed(peer) {
@@ -112,7 +112,7 @@ fn gather(alloc: Global, plan: &Exchange, gathering: &mut Gathering, text: &str)
     gathering.receive(peer, word).ok()
 }
 
-// Gathers those changes, in lists that are compacted once they have so many entries. None where memory is refused.
+// Gathers those changes, in lists that are compacted once they have so many entries. None if memory is refused.
 fn gathered(alloc: Global, plan: &Arc<Exchange>, few: usize) -> Option<Gathering> {
     let tables = Tables::new(alloc, plan.clone().ok()?).ok()?;
     let mut gathering = Gathering::new(tables, few).ok()?;
@@ -122,7 +122,7 @@ fn gathered(alloc: Global, plan: &Arc<Exchange>, few: usize) -> Option<Gathering
     Some(gathering)
 }
 
-// The tables of all clients that are made of them. None where memory is refused.
+// The tables of all clients that are made of them. None if memory is refused.
 fn settled(alloc: Global, few: usize) -> Option<String> {
     let plan = exchange(alloc, FOUR_PEERS)?;
     let tables = gathered(alloc, &plan, few)?.settle().ok()?;

@@ -48,8 +48,8 @@ pub fn shown_clients(alloc: Global, exchange: &Exchange, held: &HeldRoute) -> Op
     format!(in alloc; "{clients:?}").ok()
 }
 
-// A route, its sender's number and time, what decisions ask of it before they look at the others, whether it is
-// eligible, whether it is for all but its sender, and its path length, neighbour AS and MED.
+// A route, its sender's number and time, and the values that decisions need. They are whether it is eligible,
+// whether it is for all but its sender, and its path length, neighbour AS and MED.
 const HELD: &str = "
 exchange 64500 192.0.2.0/24; a,64501,192.0.2.11,192.0.2.11; b,64502,192.0.2.12,192.0.2.12; \
     c,64503,192.0.2.13,192.0.2.13; d,64504,192.0.2.14,192.0.2.14

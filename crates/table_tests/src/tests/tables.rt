@@ -23,7 +23,7 @@ fn listed(alloc: Global, tables: &Tables, client: usize) -> Option<Vec<Shown>> {
         .ok()
 }
 
-/// The rows of a client's table; None where they are others one after another than in the list.
+/// The rows of a client's table; None if they are others one after another than in the list.
 pub fn shown(alloc: Global, tables: &Tables, client: usize) -> Option<Vec<Shown>> {
     let mut shown = Vec::new(alloc);
     for row in tables.iter_rows(client) {

@@ -102,7 +102,7 @@ type Outcome = (Result<u32, DumpFault>, Option<usize>);
 // The tables of b's dump, and the whole of it.
 type Source<'a> = (&'a Tables, &'a [u8]);
 
-// What comes of a dump of b's table, where a beginning of the whole dump is out, all of it where the answer is Ok.
+// What comes of a dump of b's table, where a beginning of the whole dump is out, all of it if the answer is Ok.
 fn outcome<T: Threads + Sync>(
     rt: &T,
     alloc: Global,

@@ -128,8 +128,8 @@ fn next<S: Source>(
     }
 }
 
-/// Appends what a session says in its first thousand changes, and how many records are passed over, where there are
-/// any. After its last change there is none, also where it is asked again.
+/// Appends what a session says in its first thousand changes, and how many records are passed over, if there are
+/// any. After its last change there is none, also if it is asked again.
 pub fn add_session<S: Source>(said: &mut Said, session: &mut Session<S>, asked: &Asked) {
     for _ in 0..1000 {
         if !add_next(said, session, asked) {
@@ -158,7 +158,7 @@ fn add_next<S: Source>(said: &mut Said, session: &mut Session<S>, asked: &Asked)
     }
 }
 
-// Appends octets as digits, where there are any.
+// Appends octets as digits, if there are any.
 fn add_digits(said: &mut Said, octets: &[u8]) {
     if !octets.is_empty() {
         said.add(" ");
@@ -290,7 +290,7 @@ fn asked_by(way: &str) -> Asked {
     }
 }
 
-// The session of a source: by RFC 4271 where no standard is named.
+// The session of a source: by RFC 4271 if no standard is named.
 fn session_of<S: Source>(alloc: Global, source: S, way: &str) -> Session<S> {
     if way == "session" {
         Session::over(alloc, source, PEER)
@@ -336,7 +336,7 @@ fn losses_of(way: &str) -> (Losses, Sought) {
     (losses, peer)
 }
 
-// What a file says to the one who reads it so, in pieces of at most so many octets, or at hand where they are none.
+// What a file says to the one who reads it so, in pieces of at most so many octets, or at hand if they are none.
 fn read(alloc: Global, file: &[u8], way: &str, piece: usize) -> Said {
     let mut said = Said::new(alloc);
     let count = number_after(way, "octets ").unwrap_or(file.len());
@@ -389,7 +389,7 @@ fn is_wanted(said: &str, way: &str, wanted: &str) -> bool {
     }
 }
 
-// Appends what comes of one way of reading a file, where that is not what its lines say.
+// Appends what comes of one way of reading a file, if that is not what its lines say.
 fn check_way(wrong: &mut Said, alloc: Global, row: &str, file: &[u8], lines: &str) {
     let (way, wanted) = lines.split_once('\n').unwrap_or((lines, ""));
     let first = number_after(way, "pieces ").unwrap_or(0);
@@ -403,7 +403,7 @@ fn check_way(wrong: &mut Said, alloc: Global, row: &str, file: &[u8], lines: &st
     }
 }
 
-// Appends what comes of each way of reading a row's file, where that is not what the row says.
+// Appends what comes of each way of reading a row's file, if that is not what the row says.
 fn check_row(wrong: &mut Said, alloc: Global, row: &str) {
     let (head, ways) = row.split_once("\n  by ").unwrap_or((row, "no way"));
     let (name, lines) = head.split_once('\n').unwrap_or((head, ""));

@@ -33,7 +33,7 @@ impl Said {
         self.refused = true;
     }
 
-    /// What was added, where that is whole.
+    /// What was added, if that is whole.
     pub fn text(&self) -> Option<&str> {
         if self.refused {
             return None;

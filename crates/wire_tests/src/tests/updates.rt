@@ -94,7 +94,7 @@ fn add_answer(said: &mut Said, read: &Result<Message, MessageFault>) {
 // What rows of a kind have before their bar, and what is said of it.
 #[derive(Clone, Copy)]
 enum Topic {
-    // A message, and what it says by RFC 4271, and by RFC 7606 where that is something else.
+    // A message, and what it says by RFC 4271, and by RFC 7606 if that is something else.
     Message,
     // A message, and whether it may concern 203.0.113.0/24 by the two.
     Concern,
@@ -117,7 +117,7 @@ fn say(said: &mut Said, alloc: Global, topic: Topic, text: &str) {
     }
 }
 
-// Appends what is said in a row, where that is not what is wanted. A row without a bar is a remark.
+// Appends what is said in a row, if that is not what is wanted. A row without a bar is a remark.
 fn add_wrong(wrong: &mut Said, alloc: Global, topic: Topic, row: &str) {
     let Some((text, wanted)) = row.split_once(" | ") else {
         return;
@@ -127,7 +127,7 @@ fn add_wrong(wrong: &mut Said, alloc: Global, topic: Topic, row: &str) {
     compare(wrong, &said, wanted, row);
 }
 
-// Appends what is said, where that is not what is wanted in a row.
+// Appends what is said, if that is not what is wanted in a row.
 fn compare(wrong: &mut Said, said: &Said, wanted: &str, row: &str) {
     let found = said.text();
     if found != Some(wanted) {

@@ -4,17 +4,25 @@ use rs_mrt::write_header;
 use spelled_in_hex::octets;
 use std::alloc::Global;
 
-// The names of digits. Of an UPDATE (RFC 4271, section 4.3): the Marker of a header; an attribute with its flags,
-// type, length and value, which is IGP, 64501 or 192.0.2.11; the three together, and with an ORIGIN of 3; the prefix
-// 203.0.113.0/24. Of a record (RFC 6396, section 4.4): AS 64501 at 192.0.2.11 and the peers after it, recorded by AS
-// 64500 at 192.0.2.1, interface 0, IPv4; the first with two octets of AS number, and at an IPv6 address; AS
-// 4200000006 at 192.0.2.16, with four octets and with two.
+// The names of digits, first those for an UPDATE (RFC 4271, section 4.3):
+// - The Marker of a header.
+// - An attribute with its flags, type, length and value, which is IGP, 64501 or 192.0.2.11.
+// - The three attributes together, and with an ORIGIN of 3.
+// - The prefix 203.0.113.0/24.
 //
-// Of messages behind their Marker: an UPDATE that announces 203.0.113.0/24; one that announces that and
-// 198.51.100.0/24 and withdraws 192.0.2.0/24; one with an ORIGIN that no standard knows; an OPEN of AS 64501 with the
-// BGP Identifier 192.0.2.111 and no parameter; one of AS 4200000006, which doesn't fit into two octets, with
-// 192.0.2.116 and parameters that list the capabilities of multiprotocol and of AS numbers of four octets; a
-// NOTIFICATION of Cease, Administrative Shutdown; the other types.
+// Those for a record (RFC 6396, section 4.4):
+// - AS 64501 at 192.0.2.11 and the peers after it, recorded by AS 64500 at 192.0.2.1, interface 0, IPv4.
+// - The first of these with two octets of AS number, and at an IPv6 address.
+// - AS 4200000006 at 192.0.2.16, with four octets and with two.
+//
+// Those for messages behind their Marker:
+// - An UPDATE that announces 203.0.113.0/24, and one that also announces 198.51.100.0/24 and withdraws 192.0.2.0/24.
+// - An UPDATE with an ORIGIN that no standard knows.
+// - An OPEN of AS 64501 with the BGP Identifier 192.0.2.111 and no parameter.
+// - An OPEN of AS 4200000006, which doesn't fit into two octets, with the BGP Identifier 192.0.2.116. Its parameters
+// list the capabilities of multiprotocol and of AS numbers of four octets.
+// - A NOTIFICATION of Cease, Administrative Shutdown.
+// - The other types.
 const NAMES: &[(&str, &str)] = &[
     ("MARKER", "FFFFFFFF FFFFFFFF FFFFFFFF FFFFFFFF"),
     ("ORIGIN", "40010100"),
@@ -131,7 +139,7 @@ impl Octets {
         }
     }
 
-    /// What was spelled, where that is whole.
+    /// What was spelled, if that is whole.
     pub fn whole(&self) -> Option<&[u8]> {
         if self.is_whole {
             return Some(&self.octets);

@@ -1,5 +1,5 @@
--- A change that is given comes before whatever may come, behind those that were passed over, and the routes take it where it concerns the
--- prefix; once none is given, all were given or passed over.
+-- A change that is given comes after those that were passed over, and before whatever may come. The routes take it
+-- if it concerns the prefix. Once no change is given, all were given or passed over.
 use Rattle.std.proofs.Common.{◌≡◌, ◌∙◌, ◌++◌, ◌∷◌, [], false, refl, sym}
 use Rattle.std.specs.List.{list_any}
 use Rattle.rs_mrt.specs.RecordReading.{MayCome, room_left}

@@ -1,4 +1,4 @@
--- One peer more of which it is held what was heard of it.
+-- One more peer, whose routes in the tables are those that were read of it.
 use Rattle.std.proofs.Common.{◌≡◌, ◌≢◌, ◌+◌, ℕ, [], ◌∷◌, ◌++◌, Some, Ok, Err, length, length-append, sym, ap, subst, ◌∙◌, arith, rules}
 use Rattle.std.proofs.lemmas.Grind.{common_steps}
 use Rattle.std.specs.Prelude.{slice_get}

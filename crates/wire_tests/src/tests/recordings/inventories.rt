@@ -8,7 +8,7 @@ use rs_mrt::{MemoryReader, ReadLimits};
 use std::alloc::Global;
 use std::test::*;
 
-// The kind is told by the Type, then the Subtype, then the Address Family.
+// The kind is found by the Type, then the Subtype, then the Address Family.
 const KINDS: &str = "
 one of each kind, but two of sessions with two-octet AS numbers
     100 16.4 of-64501 MARKER CHANGES

@@ -174,7 +174,7 @@ impl<'a> Pair<'a> {
         ]
     }
 
-    // Appends the octets that are written where the routes stand: the first of each type, in ascending type.
+    // Appends the octets that are written if the routes stand: the first of each type, in ascending type.
     fn add_written(self, said: &mut Said, alloc: Global) {
         let second = if self.is_repeated() {
             ""

@@ -56,8 +56,8 @@ fn counts(attributes: &Attributes) -> (u32, u32) {
     (segments, others)
 }
 
-// Of an UPDATE with attributes: how many prefixes are withdrawn and announced, how many segments its AS_PATH has, how many
-// attributes of unknown type there are, and whether all are written as they are to be.
+// The content of an UPDATE with attributes: how many prefixes are withdrawn and announced, and how many segments its
+// AS_PATH has. Also how many attributes of unknown type there are, and whether all are written as they are to be.
 fn seen(alloc: Global, read: &Update) -> Option<(usize, usize, (u32, u32), bool)> {
     let attributes = read.attributes.as_ref()?;
     Some((

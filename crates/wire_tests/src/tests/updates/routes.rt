@@ -3,10 +3,11 @@
 
 use super::*;
 
-// Path attributes of a route, and what they say: ORIGIN, NEXT_HOP, the MED as received and as compared, whether
-// ATOMIC_AGGREGATE is there, AGGREGATOR; how long they are in writing; AS_PATH, its length, the neighbour AS where the
-// sending peer's is 64501, the AS numbers that it holds of those that are asked for; the communities, and those that
-// are found of what is asked for; the attributes of unknown type.
+// Path attributes of a route, and what they say, in three parts:
+// - ORIGIN, NEXT_HOP, the MED as received and as compared, whether ATOMIC_AGGREGATE is there, AGGREGATOR, and how
+// long they are in writing.
+// - AS_PATH, its length, the neighbour AS if the sending peer's is 64501, and which of some AS numbers it has.
+// - The communities, and which of some communities are among them; the attributes of unknown type.
 const ROUTES: &str = "
 Attributes of every kind: an AS_SET counts 1, and gives no neighbour.
 40010101 400210 0102 0000FBF7 0000FBF8 0201 0000FDF2 NEXT_HOP 80040400000007 400600 E00708 0000FBF5 C0000201 \

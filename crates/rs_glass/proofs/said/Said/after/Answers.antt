@@ -1,4 +1,4 @@
--- One change more, for what is said last and for the close.
+-- One more change, for the last changes on the prefix and for the close.
 use Rattle.std.proofs.Common.{◌∙◌, ap, sym}
 use Rattle.rs_session.specs.Change.{change_of}
 use Rattle.rs_change.specs.declared.word.Reason.{Reason}

@@ -1,4 +1,4 @@
--- Nothing is said last by no changes, and no close is among them.
+-- No change is on the prefix before any change, and no change is a close.
 use Rattle.std.proofs.Common.{refl}
 use Rattle.rs_glass.proofs.said.Said.nothing.Goals as goal
 
