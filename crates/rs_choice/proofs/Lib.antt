@@ -3,3 +3,4 @@ pub mod Members
 pub mod Eliminations
 pub mod Examples
 pub mod PermitLemmas
+mod CandidateLemmas

@@ -2,12 +2,13 @@
 --
 -- Export policy comes before the decision, and each client has a decision of its own. So a route that policy refuses
 -- to a client hides no other route from that client.
-use Rattle.std.specs.Prelude.{◌≡◌, ◌<◌, ℕ, Bool, List, length, filter, Option, None, Some, slice_index_or}
+use Rattle.std.specs.Prelude.{◌≡◌, ◌≢◌, ◌<◌, ℕ, Bool, IsTrue, List, length, filter, Option, None, Some, slice_get}
+use Rattle.std.specs.Prelude.{slice_index_or}
 use Rattle.std.specs.Option.{option_map}
 use Rattle.rs_choice.specs.Decision.{SentRoute, standing_of, choice}
-use Rattle.rs_choice.specs.Eligibility.{is_eligible}
-use Rattle.rs_choice.specs.Plan.{Plan}
-use Rattle.rs_choice.specs.Policy.{is_permitted}
+use Rattle.rs_choice.specs.Eligibility.{is_eligible, is_eligible_from}
+use Rattle.rs_choice.specs.Plan.{Peer, Plan}
+use Rattle.rs_choice.specs.Policy.{is_permitted, is_permitted_from}
 
 -- export policy permits the route to the client
 abbrev pub is_sent_to : Plan → ℕ → SentRoute → Bool
@@ -21,6 +22,16 @@ eligible_among plan routes = filter (λ sent. is_eligible plan sent.peer sent.at
 -- section 2.3). The client's own route is never a candidate. A client that the plan does not have has no candidates.
 abbrev pub candidates_among : Plan → ℕ → List SentRoute → List SentRoute
 candidates_among plan client routes = filter (is_sent_to plan client) (eligible_among plan routes)
+
+-- a client may get a route: another peer sent it, it is eligible, and export policy permits it to the client
+pub record MayGet (plan : Plan) (client : ℕ) (sent : SentRoute) : Type 0 where
+  pub receiver : Peer
+  pub sender : Peer
+  pub receiver_is : slice_get plan.peers client ≡ Some receiver
+  pub sender_is : slice_get plan.peers sent.peer ≡ Some sender
+  pub of_another : client ≢ sent.peer
+  pub eligible : IsTrue (is_eligible_from plan.local sender sent.attributes)
+  pub permitted : IsTrue (is_permitted_from plan.local receiver sender sent.attributes)
 
 -- the best path of a client on a prefix: the choice among its candidates
 abbrev pub chosen_for : Plan → ℕ → List SentRoute → Option SentRoute

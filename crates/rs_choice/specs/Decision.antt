@@ -13,15 +13,14 @@ use Rattle.rs_choice.specs.declared.step.Step.{Step}
 use Rattle.rs_choice.specs.declared.step.Step.TheVariants as steps
 use Rattle.rs_choice.specs.Plan.{Peer, Plan}
 
--- At a step, a route removes another one by these comparisons:
+-- At a step, a route removes another one by these comparisons. All peers are external and no interior cost is known,
+-- so steps d and e remove nothing.
 -- - Preference: a higher configured preference of the sending peer (section 9.1.1).
 -- - Path length: fewer AS numbers in AS_PATH, an AS_SET counting 1 (section 9.1.2.2, a).
 -- - Origin: a lower ORIGIN (section 9.1.2.2, b).
 -- - MED: the same neighbour AS and a lower MED (section 9.1.2.2, c).
 -- - Identifier: a lower BGP Identifier of the sending peer (section 9.1.2.2, f).
 -- - Address: a lower address of the sending peer (section 9.1.2.2, g).
---
--- All peers are external and no interior cost is known, so that steps d and e remove nothing.
 abbrev pub beats : Step → Standing → Standing → Bool
 beats steps.Preference one other = nat_lt other.preference one.preference
 beats steps.PathLength one other = nat_lt one.path_length other.path_length
@@ -65,8 +64,7 @@ abbrev pub member_at : {M : Type 0} → List M → Option ℕ → Option M
 member_at members None = None
 member_at members (Some place) = slice_get members place
 
--- what the decision process compares of a route: values of its sender and of its attributes; a missing MED counts as
--- 0 (section 9.1.2.2, c)
+-- what the decision process compares of a route; a missing MED counts as 0 (section 9.1.2.2, c)
 abbrev pub standing_from : Peer → PathAttributes → Standing
 standing_from sender attributes = record {
   preference = sender.preference;

@@ -5,13 +5,19 @@ use Rattle.std.specs.List.{Contains}
 use Rattle.rs_choice.specs.declared.plan.Local.{Local}
 use Rattle.rs_choice.specs.declared.step.Step.{Step}
 use Rattle.rs_choice.specs.declared.step.Step.TheVariants as steps
-use Rattle.rs_choice.specs.Clients.{best_peer_for, is_sent_to}
+use Rattle.rs_choice.specs.Clients.{MayGet, best_peer_for, candidates_among, is_sent_to}
 use Rattle.rs_choice.specs.Comparison.{IsAhead, Outdoes}
 use Rattle.rs_choice.specs.Eligibility.{is_eligible}
 use Rattle.rs_choice.specs.Plan.{Peer, Plan, Test, plan_fault}
 use Rattle.rs_types.specs.FirstFault.{first_fault}
 use Rattle.rs_choice.specs.Policy.{is_permitted}
 use Rattle.rs_choice.specs.Decision.{SentRoute, beats, choice, decision_steps, remaining, standing_of, unbeaten}
+
+-- the candidates of a client are those of the routes on a prefix that it may get
+abbrev pub CandidatesMayBeGot : Type 0
+CandidatesMayBeGot =
+    (plan : Plan) (client : ℕ) (routes : List SentRoute) (route : SentRoute)
+    → Contains (candidates_among plan client routes) route ↔ (Contains routes route × MayGet plan client route)
 
 -- the choice is a member of the set, and there is one unless the set is empty
 abbrev pub ChoiceIsMember : Type 0

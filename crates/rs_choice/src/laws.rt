@@ -1,8 +1,15 @@
 //! What holds of the definitions that the contracts cite: each law is the contract of a function that does nothing.
 
-ghost use Rattle.rs_choice.specs.Laws.{BehindIsNoMatter, ChoiceIgnoresOrder, ChoiceIsMember, ChoiceIsUnbeaten};
+ghost use Rattle.rs_choice.specs.Laws.{BehindIsNoMatter, CandidatesMayBeGot, ChoiceIgnoresOrder, ChoiceIsMember};
+ghost use Rattle.rs_choice.specs.Laws.{ChoiceIsUnbeaten};
 ghost use Rattle.rs_choice.specs.Laws.{ChoiceStays, FaultIsFirst, MedDecidesWithinNeighbour, OpenPolicySharesChoice};
 ghost use Rattle.rs_choice.specs.Laws.{OthersAreNoMatter, OutdoneIsNoMatter, PeersHaveOwnAddresses, RemovedIsNoMatter};
+
+/// The candidates of a client for a prefix are the eligible routes of other peers that export policy permits to it
+/// (RFC 4271, section 9.1.2; RFC 7947, section 2.3).
+pub fn candidates_may_be_got()
+    ensures { CandidatesMayBeGot }
+{}
 
 /// The choice among candidates is one of them, and there is one unless there is no candidate. At each step of
 /// the decision process the choice is in the set that reached the step. No member of that set beats it (RFC
