@@ -28,13 +28,13 @@ may_get-from : (plan : Plan) (client : ℕ) (sent : SentRoute) → is_eligible p
     is_sent_to plan client sent ≡ true → MayGet plan client sent
 may_get-from plan client sent eligible permitted =
     let parts = and_parts (not (client == sent.peer)) (option_map_or
-        (λ receiver. option_map_or (λ sender. is_permitted_from plan.local receiver sender sent.attributes)
-        (slice_get plan.peers sent.peer) false) (slice_get plan.peers client) false) permitted in
+    (λ receiver. option_map_or (λ sender. is_permitted_from plan.local receiver sender sent.attributes)
+    (slice_get plan.peers sent.peer) false) (slice_get plan.peers client) false) permitted in
     let receiver = found_there (λ (receiver : Peer). option_map_or
-        (λ sender. is_permitted_from plan.local receiver sender sent.attributes) (slice_get plan.peers sent.peer) false)
-        (slice_get plan.peers client) parts.1 in
+    (λ sender. is_permitted_from plan.local receiver sender sent.attributes) (slice_get plan.peers sent.peer) false)
+    (slice_get plan.peers client) parts.1 in
     let sender = found_there (λ (sender : Peer). is_permitted_from plan.local receiver.0 sender sent.attributes)
-        (slice_get plan.peers sent.peer) receiver.2 in
+    (slice_get plan.peers sent.peer) receiver.2 in
     record {
       receiver = receiver.0;
       sender = sender.0;
@@ -59,7 +59,7 @@ got-from : (plan : Plan) (client : ℕ) (routes : List SentRoute) (route : SentR
     → Contains routes route × MayGet plan client route
 got-from plan client routes route among =
     let outer = mem-filter (is_sent_to plan client) (eligible_among plan routes) route
-        (contains-mem (candidates_among plan client routes) route among) in
+    (contains-mem (candidates_among plan client routes) route among) in
     let inner = mem-filter (λ (sent : SentRoute). is_eligible plan sent.peer sent.attributes) routes route outer.0 in
     (mem-contains routes route inner.0, may_get-from plan client route inner.1 outer.1)
 

@@ -32,8 +32,7 @@ loss time = Gives (record { time = time; body = Lost } ∷ [])
 abbrev pub ESTABLISHED : ℕ
 ESTABLISHED = 6
 
--- a change of state: the session is lost if it leaves Established; other changes of state have no effect (our
--- choice)
+-- The session is lost if its state leaves Established. Other changes of state have no effect (our choice).
 abbrev pub effect_of_state : ℕ → ℕ → ℕ → RecordEffect
 effect_of_state time old new = if (old == ESTABLISHED) && not (new == ESTABLISHED) then loss time else Gives []
 
@@ -54,8 +53,7 @@ effect_of_message time (Ok IsRefresh) = Gives []
 effect_of_message time (Err fault) = Ends (reason_of fault)
 
 -- The effect of an entry. Messages and changes of state of this peer count. Entries of other peers and of other
--- kinds are passed over (our choice). A record at fault ends the session. Faults in messages are handled by one of
--- the standards.
+-- kinds are passed over (our choice). A record at fault ends the session.
 abbrev pub effect_of_entry : Errors → PeerId → ℕ → Result Meaning MrtFault → RecordEffect
 effect_of_entry errors peer time (Ok (Message asn address octets)) =
     if is_of peer asn address then effect_of_message time (message_by errors octets) else PassesOver
