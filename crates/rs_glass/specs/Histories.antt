@@ -114,12 +114,12 @@ counts plan before one =
     nat_lt one.peer (length plan.peers) && not (list_any is_close (changes_from one.peer before))
 
 module _ (plan : Plan) (client : Option ℕ) (prefix : IpPrefix) where
-  -- the client's route after one more event
+  -- the event with the client's route after it, if the event counts
   abbrev pub gets_after : List Happening → Happening → Option GetsContent
   gets_after before one =
       gets_by (counts plan before one) (tables_after plan (before ++ one ∷ [])) client prefix one
 
-  -- the client's route after each event of a list
+  -- all events that count, each with the client's route after it
   abbrev pub all_gets : List Happening → List GetsContent
   all_gets happenings = each_behind (λ before one. option_to_list (gets_after before one)) [] happenings
 

@@ -16,8 +16,8 @@ pub record Writing (W : Type 0) : Type 0 where
   pub waiting : List ℕ
   pub held : List Announcing
 
--- The octets that a writer has taken since, and those that wait, are the beginning of a session with these routes.
--- The routes of the UPDATE that is being filled are not in them yet.
+-- The octets that a writer has taken since, and those that wait, begin a session with these routes. Routes of the
+-- UPDATE that is being filled count among these, though their octets are still to come.
 pub record IsBegun {W : Type 0} (taken : W → Option (List ℕ)) (before : Option (List ℕ)) (writing : Writing W)
     (routes : List TableRoute) : Type 0 where
   pub sent : List ℕ
