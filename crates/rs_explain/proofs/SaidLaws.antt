@@ -7,8 +7,9 @@ use Rattle.std.proofs.lemmas.Bool.{both_ways, or_parts}
 use Rattle.std.proofs.lemmas.Option.{cond_some}
 use Rattle.rs_update.specs.IpPrefix.{IpPrefix}
 use Rattle.rs_update.specs.PathAttributes.{PathAttributes}
+use Rattle.rs_update.specs.PrefixOrder.{same_prefix}
 use Rattle.rs_session.specs.Change.{Change, ChangeBody, Announced, Withdrawn, Lost, Closed}
-use Rattle.rs_table.specs.Left.{announcement, drops_routes, is_loss, is_on, reason_drops, same_prefix, Leaves, RouteLeft}
+use Rattle.rs_table.specs.Left.{announcement, drops_routes, is_loss, is_on, reason_drops, Leaves, RouteLeft}
 use Rattle.rs_explain.specs.declared.last_said.Ending.{Ending}
 use Rattle.rs_explain.specs.declared.last_said.EndedBy.{EndedBy}
 use Rattle.rs_explain.specs.declared.last_said.EndedBy.TheVariants as by

@@ -3,8 +3,9 @@ use Rattle.std.specs.Prelude.{◌≡◌, ℕ, Bool, true, false, if◌then◌els
 use Rattle.std.specs.List.{list_any}
 use Rattle.std.specs.Option.{is_some}
 use Rattle.rs_update.specs.IpPrefix.{IpPrefix}
+use Rattle.rs_update.specs.PrefixOrder.{same_prefix}
 use Rattle.rs_session.specs.Change.{Change, ChangeBody, Announced, Withdrawn, Lost, Closed}
-use Rattle.rs_table.specs.Left.{same_prefix, reason_drops}
+use Rattle.rs_table.specs.Left.{reason_drops}
 use Rattle.rs_explain.specs.declared.last_said.LastSaid.{LastSaid}
 use Rattle.rs_explain.specs.declared.last_said.LastSaid.TheVariants as said
 use Rattle.rs_explain.specs.declared.last_said.Ending.{Ending}

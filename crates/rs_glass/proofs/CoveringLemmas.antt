@@ -6,8 +6,8 @@ use Rattle.std.proofs.lemmas.Bool.Decides.{eqb_tells}
 use Rattle.rs_update.specs.Covering.{covers}
 use Rattle.rs_update.specs.IpPrefix.{IpPrefix}
 use Rattle.rs_update.specs.Prefix.{network_of}
+use Rattle.rs_update.specs.PrefixOrder.{same_prefix}
 use Rattle.rs_table.specs.Content.{RibContent}
-use Rattle.rs_table.specs.Left.{same_prefix}
 use Rattle.rs_table.specs.Listing.{is_held}
 use Rattle.rs_table.proofs.PrefixLemmas.{same_prefix-true}
 

@@ -8,6 +8,7 @@ use Rattle.std.proofs.lemmas.List.{append-nil}
 use Rattle.std.proofs.lemmas.List.Elements.{filter-append}
 use Rattle.rs_update.specs.Covering.{covers}
 use Rattle.rs_update.specs.IpPrefix.{IpPrefix}
+use Rattle.rs_update.specs.PrefixOrder.{same_prefix}
 use Rattle.rs_mrt.specs.Record.{MrtRecord}
 use Rattle.rs_session.specs.Change.{Change, ChangeBody, Announced, Withdrawn, Closed, body_closes, change_of, is_close}
 use Rattle.rs_session.specs.Concerning.{SaysBehind, body_concerns, concerns}
@@ -15,7 +16,7 @@ use Rattle.rs_session.specs.Stage.{Comes, Stage, May, Closes}
 use Rattle.rs_change.specs.declared.word.Reason.{Reason}
 use Rattle.rs_change.specs.declared.word.Word.{Word}
 use Rattle.rs_table.proofs.RibLemmas.{any-one_more}
-use Rattle.rs_table.specs.Left.{Routes, left, same_prefix}
+use Rattle.rs_table.specs.Left.{Routes, left}
 use Rattle.rs_explain.specs.LastSaid.{IsSaidLast, EndRoute, KeepRoute, announces, body_announces, body_ends_by}
 use Rattle.rs_explain.specs.declared.last_said.LastSaid.{LastSaid}
 use Rattle.rs_explain.specs.declared.last_said.LastSaid.TheVariants as last

@@ -13,8 +13,9 @@ use Rattle.rs_session.specs.Change.{Change, ChangeBody, Announced, Withdrawn, is
 use Rattle.rs_session.specs.Stage.{Comes, Stage}
 use Rattle.rs_session.specs.declared.peer.PeerId.{PeerId}
 use Rattle.rs_table.specs.Laws.{LeftAfterOneMore, LeftByLastChanges, LeftByPart}
-use Rattle.rs_table.specs.Left.{Routes, after, body_prefix, left, same_prefix}
+use Rattle.rs_table.specs.Left.{Routes, after, body_prefix, left}
 use Rattle.rs_update.specs.Covering.{covers}
+use Rattle.rs_update.specs.PrefixOrder.{same_prefix}
 use Rattle.rs_session.specs.Concerning.{body_concerns, concerns}
 use Rattle.rs_glass.specs.Recorded.{AreChangesOf, AreTold, IsSaid, IsSaidBefore}
 use Rattle.rs_glass.specs.declared.question.Question.{Question}

@@ -11,11 +11,11 @@ use Rattle.std.proofs.lemmas.List.{append-nil, map-append}
 use Rattle.std.proofs.lemmas.List.Elements.{filter-append}
 use Rattle.std.proofs.lemmas.List.Folds.{list_any-append}
 use Rattle.rs_update.specs.IpPrefix.{IpPrefix}
-use Rattle.rs_update.specs.PrefixOrder.{prefix_cmp}
+use Rattle.rs_update.specs.PrefixOrder.{prefix_cmp, same_prefix}
 use Rattle.rs_session.specs.Change.{Change, ChangeBody, Announced, Withdrawn, Lost, Closed, change_of, is_close}
 use Rattle.rs_change.specs.declared.word.Word.{Word}
 use Rattle.rs_table.specs.Laws.{LeftAfterOneMore}
-use Rattle.rs_table.specs.Left.{HasNoClose, RouteLeft, Routes, after, after_body, body_prefix, is_on, left, reason_drops, same_prefix}
+use Rattle.rs_table.specs.Left.{HasNoClose, RouteLeft, Routes, after, after_body, body_prefix, is_on, left, reason_drops}
 use Rattle.rs_table.specs.Counts.{announces, body_announces}
 use Rattle.rs_glass.specs.RoutesLeftView.{body_ends_route, ends_route}
 use Rattle.rs_session.proofs.BesideLemmas.{none-part}

@@ -2,8 +2,8 @@
 use Rattle.std.specs.Prelude.{◌≡◌, ◌⊎◌, ◌<◌, ℕ, false, List, Option, Some, None, slice_get}
 use Rattle.std.specs.Option.{option_map}
 use Rattle.rs_update.specs.IpPrefix.{IpPrefix}
+use Rattle.rs_update.specs.PrefixOrder.{same_prefix}
 use Rattle.rs_table.specs.Content.{TablesContent}
-use Rattle.rs_table.specs.Left.{same_prefix}
 use Rattle.rs_table.specs.Table.{best_of}
 use Rattle.rs_explain.specs.Explanations.{IsExplanation}
 use Rattle.rs_glass.specs.Covering.{IsLongestHeld, NoneIsHeld}

@@ -6,6 +6,7 @@ use Rattle.std.specs.Prelude.{Some, length, map, slice_get}
 use Rattle.std.specs.List.Sorted.{IsPermutation, IsSortedByKey, IsStableByKey}
 use Rattle.std.specs.Ordering.{nat_cmp}
 use Rattle.rs_update.specs.IpPrefix.{IpPrefix}
+use Rattle.rs_update.specs.PrefixOrder.{same_prefix}
 use Rattle.rs_mrt.specs.Reader.{ReadEnd}
 use Rattle.rs_mrt.specs.Record.{MrtRecord}
 use Rattle.rs_mrt.specs.RecordReading.{MayCome, unread}
@@ -13,7 +14,6 @@ use Rattle.rs_mrt.specs.declared.fault.SourceFault.{SourceFault}
 use Rattle.rs_session.specs.declared.peer.PeerId.{PeerId}
 use Rattle.rs_session.specs.Change.{Change, ChangeBody, Announced, Withdrawn, Lost, Closed, change_of}
 use Rattle.rs_choice.specs.Plan.{Peer, Plan}
-use Rattle.rs_table.specs.Left.{same_prefix}
 use Rattle.rs_glass.specs.Behind.{each_behind}
 use Rattle.rs_glass.specs.FileSaid.{SaidChange, cause_in, counts_at, said_in}
 use Rattle.rs_glass.specs.Moments.{in_microseconds}

@@ -2,7 +2,7 @@
 use Rattle.std.specs.Prelude.{ℕ, ◌==◌, ◌&&◌, Bool, true, if◌then◌else◌, Option, None, Some}
 use Rattle.rs_update.specs.IpPrefix.{IpPrefix}
 use Rattle.rs_update.specs.Covering.{covers}
-use Rattle.rs_table.specs.Left.{same_prefix}
+use Rattle.rs_update.specs.PrefixOrder.{same_prefix}
 use Rattle.rs_table.specs.Table.{TableRow}
 use Rattle.rs_survey.specs.declared.asked_rows.AskedRows.{AskedRows}
 

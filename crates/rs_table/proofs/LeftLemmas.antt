@@ -9,8 +9,8 @@ use Rattle.std.proofs.lemmas.List.{append_assoc, reverse-append, reverse-reverse
 use Rattle.std.proofs.lemmas.List.Folds.{find-append, list_any-append}
 use Rattle.rs_types.specs.IpPrefix.{IpPrefix}
 use Rattle.rs_change.specs.Change.{Change, ChangeBody, Announced, Withdrawn, Lost, Closed, is_close, body_closes}
-use Rattle.rs_types.specs.PrefixOrder.{prefix_cmp}
-use Rattle.rs_table.specs.Left.{same_prefix, RouteLeft, Routes, Leaves, announcement, body_prefix, body_route, body_drops, body_loses}
+use Rattle.rs_types.specs.PrefixOrder.{prefix_cmp, same_prefix}
+use Rattle.rs_table.specs.Left.{RouteLeft, Routes, Leaves, announcement, body_prefix, body_route, body_drops, body_loses}
 use Rattle.rs_table.specs.Left.{drops_routes, is_loss, is_on, bears_on, HasNoClose, last_change_on, route_left_on, left, after, after_body}
 use Rattle.rs_table.specs.Left.{reason_drops}
 use Rattle.rs_table.proofs.PrefixLemmas.{prefix_total, prefix_cmp-IsAntisymmetric, same_prefix-true, same_prefix-itself, find-entries}

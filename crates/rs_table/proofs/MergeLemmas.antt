@@ -9,7 +9,7 @@ use Rattle.std.proofs.lemmas.Bool.{cases_Bool, cases_lt, or_from, or_parts}
 use Rattle.std.proofs.lemmas.Bool.Decides.{eqb_tells}
 use Rattle.std.proofs.lemmas.List.Elements.{All-from_recursion, recursion_from_All}
 use Rattle.rs_types.specs.IpPrefix.{IpPrefix}
-use Rattle.rs_types.specs.PrefixOrder.{prefix_cmp}
+use Rattle.rs_types.specs.PrefixOrder.{prefix_cmp, same_prefix}
 use Rattle.rs_choice.specs.Plan.{Plan}
 use Rattle.rs_choice.specs.declared.held_route.HeldRoute.{HeldRoute}
 use Rattle.rs_table.specs.ByPeer.{IsRow, route_at}
@@ -17,7 +17,7 @@ use Rattle.rs_table.specs.Cell.{CellContent, IsCell}
 use Rattle.rs_choice.specs.Held.{sent_of_held}
 use Rattle.rs_table.specs.Cells.{Entries, AreCells, AreJoined, cell_at, routes_at, routes_of, routes_from}
 use Rattle.rs_table.specs.Content.{RibContent, TablesContent, nothing_held, rib_of}
-use Rattle.rs_table.specs.Left.{RouteLeft, same_prefix}
+use Rattle.rs_table.specs.Left.{RouteLeft}
 use Rattle.rs_table.specs.Listing.{is_held}
 use Rattle.rs_table.specs.Merge.{AreParts, IsJoined, IsMerged, IsOfPart}
 use Rattle.rs_choice.specs.Decision.{SentRoute}

@@ -8,11 +8,11 @@ use Rattle.std.specs.Ordering.{nat_cmp, ordering_then}
 use Rattle.std.specs.declared.cmp.Ordering.{Ordering}
 use Rattle.std.specs.FinMap.{from_entries}
 use Rattle.rs_types.specs.IpPrefix.{IpPrefix}
-use Rattle.rs_types.specs.PrefixOrder.{prefix_cmp}
+use Rattle.rs_types.specs.PrefixOrder.{prefix_cmp, same_prefix}
 use Rattle.rs_change.specs.Change.{Change}
 use Rattle.rs_table.specs.Logged.{Logged}
 use Rattle.rs_table.specs.declared.log.Log.{Log}
-use Rattle.rs_table.specs.Left.{RouteLeft, Routes, bears_on, body_route, drops_routes, same_prefix}
+use Rattle.rs_table.specs.Left.{RouteLeft, Routes, bears_on, body_route, drops_routes}
 
 -- the first octet of a prefix
 abbrev pub first_octet : IpPrefix → ℕ

@@ -8,18 +8,13 @@ use Rattle.std.specs.Prelude.{◌≡◌, ℕ, Bool, true, false, ◌||◌, List,
 use Rattle.std.specs.Prelude.{if◌then◌else◌}
 use Rattle.std.specs.List.{find, filter_map, list_any}
 use Rattle.std.specs.Option.{option_map, option_and_then, option_map_or}
-use Rattle.std.specs.Ordering.{eq_by_cmp}
 use Rattle.std.specs.FinMap.{FinMap, empty, get, insert, remove, from_entries}
 use Rattle.rs_types.specs.IpPrefix.{IpPrefix}
 use Rattle.rs_types.specs.PathAttributes.{PathAttributes}
 use Rattle.rs_change.specs.declared.word.Reason.{Reason}
 use Rattle.rs_change.specs.declared.word.Reason.TheVariants as reasons
 use Rattle.rs_change.specs.Change.{Change, ChangeBody, Announced, Withdrawn, Lost, Closed, is_close}
-use Rattle.rs_types.specs.PrefixOrder.{prefix_cmp}
-
--- whether two prefixes are equal
-abbrev pub same_prefix : IpPrefix → IpPrefix → Bool
-same_prefix = eq_by_cmp prefix_cmp
+use Rattle.rs_types.specs.PrefixOrder.{prefix_cmp, same_prefix}
 
 -- a route that is left on a prefix: the time of its announcement in seconds, and its attributes
 pub record RouteLeft : Type 0 where

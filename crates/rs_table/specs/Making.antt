@@ -2,7 +2,7 @@
 use Rattle.std.specs.Prelude.{◌≡◌, ◌≢◌, ℕ, Bool, true, if◌then◌else◌, List, [], map}
 use Rattle.std.specs.declared.cmp.Ordering.TheVariants.{Less}
 use Rattle.rs_types.specs.IpPrefix.{IpPrefix}
-use Rattle.rs_types.specs.PrefixOrder.{prefix_cmp}
+use Rattle.rs_types.specs.PrefixOrder.{prefix_cmp, same_prefix}
 use Rattle.rs_choice.specs.Decision.{SentRoute}
 use Rattle.rs_choice.specs.Held.{sent_of_held}
 use Rattle.rs_choice.specs.Plan.{Plan}
@@ -11,7 +11,6 @@ use Rattle.rs_table.specs.ByPeer.{IsRow}
 use Rattle.rs_table.specs.Cell.{AreHeld}
 use Rattle.rs_table.specs.Cells.{routes_at, AreKeptCells}
 use Rattle.rs_table.specs.Gathered.{logged_cmp}
-use Rattle.rs_table.specs.Left.{same_prefix}
 use Rattle.rs_table.specs.Logged.{Logged}
 
 -- the routes on the current prefix

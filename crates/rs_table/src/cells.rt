@@ -4,11 +4,10 @@ ghost use Rattle.std.specs.Prelude.{◌≡◌, ◌<◌, if◌then◌else◌, tru
 ghost use Rattle.std.specs.BTreeMap.{IsOrdered};
 ghost use Rattle.rs_change.specs.Change.{change_of};
 ghost use Rattle.rs_types.specs.IpPrefix.{IpPrefix};
-ghost use Rattle.rs_types.specs.PrefixOrder.{prefix_cmp};
+ghost use Rattle.rs_types.specs.PrefixOrder.{prefix_cmp, same_prefix};
 ghost use Rattle.rs_choice.specs.Held.{sent_of_held, IsJudged};
 ghost use Rattle.rs_table.specs.ByPeer.{with_route, without_route};
 ghost use Rattle.rs_table.specs.Cells.{cell_at, routes_at, AreJoined, AreKeptCells, ChangeTo, IsFirstOn};
-ghost use Rattle.rs_table.specs.Left.{same_prefix};
 
 use crate::cell::Cell;
 use rs_change::{Body, Reason, Word};

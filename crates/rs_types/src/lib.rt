@@ -36,7 +36,7 @@ pub use handling::Handling;
 pub use item::{Item, item_from, split_item};
 pub use laws::{
     a_prefix_covers_itself, origins_are_ordered_by_code,
-    prefixes_are_ordered_by_address_then_length,
+    prefixes_are_ordered_by_address_then_length, prefixes_are_the_same_by_address_and_length,
 };
 pub use number_list::Numbers;
 pub use prefix::{Prefix, covers};

@@ -15,9 +15,9 @@ use Rattle.std.proofs.lemmas.Bool.Decides.{eqb_tells}
 use Rattle.std.proofs.lemmas.Map.Made.{is_some-lookup}
 use Rattle.std.proofs.lemmas.List.{get_or_past}
 use Rattle.rs_types.specs.IpPrefix.{IpPrefix}
-use Rattle.rs_types.specs.PrefixOrder.{prefix_cmp}
+use Rattle.rs_types.specs.PrefixOrder.{prefix_cmp, same_prefix}
 use Rattle.rs_choice.specs.Plan.{Plan}
-use Rattle.rs_table.specs.Left.{Routes, same_prefix}
+use Rattle.rs_table.specs.Left.{Routes}
 use Rattle.rs_table.specs.Content.{nothing_held}
 use Rattle.rs_table.specs.Table.{sent_by, routes_on}
 use Rattle.rs_choice.specs.Decision.{SentRoute}

@@ -6,8 +6,7 @@ use Rattle.std.specs.Map.Calls.{RetainsPairs, SomeCallAtPair}
 use Rattle.std.specs.declared.cmp.Ordering.TheVariants.{Less}
 use Rattle.std.proofs.lemmas.Bool.{cases_Bool}
 use Rattle.rs_types.specs.IpPrefix.{IpPrefix}
-use Rattle.rs_types.specs.PrefixOrder.{prefix_cmp}
-use Rattle.rs_table.specs.Left.{same_prefix}
+use Rattle.rs_types.specs.PrefixOrder.{prefix_cmp, same_prefix}
 use Rattle.rs_table.specs.ByPeer.{without_route}
 use Rattle.rs_table.specs.Cell.{CellContent, routes_in}
 use Rattle.rs_table.specs.Cells.{Entries, cell_at, routes_at, routes_of}

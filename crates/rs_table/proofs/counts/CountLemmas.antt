@@ -13,14 +13,14 @@ use Rattle.std.proofs.lemmas.List.{get_or-set_other, get_or_push}
 use Rattle.std.proofs.Math.ListN.{get_or-append}
 use Rattle.std.proofs.lemmas.List.Sums.{count_by-le-length, sum_by-cons}
 use Rattle.rs_types.specs.IpPrefix.{IpPrefix}
-use Rattle.rs_types.specs.PrefixOrder.{prefix_cmp}
+use Rattle.rs_types.specs.PrefixOrder.{prefix_cmp, same_prefix}
 use Rattle.rs_change.specs.Change.{Change, ChangeBody, Announced, Withdrawn, Lost, Closed}
 use Rattle.rs_choice.specs.Decision.{SentRoute}
 use Rattle.rs_table.specs.ByPeer.{route_at, without_route}
 use Rattle.rs_table.specs.Cell.{CellContent, routes_in}
 use Rattle.rs_table.specs.Cells.{Entries, cell_at, routes_at, routes_of, routes_from, changed_routes_body, ChangeTo}
 use Rattle.rs_table.specs.Counts.{route_count, announces, body_announces, AreCounts}
-use Rattle.rs_table.specs.Left.{RouteLeft, Routes, same_prefix, reason_drops}
+use Rattle.rs_table.specs.Left.{RouteLeft, Routes, reason_drops}
 use Rattle.rs_table.proofs.PrefixLemmas.{prefix_total, prefix_cmp-IsAntisymmetric, same_prefix-true}
 use Rattle.rs_table.proofs.cells.CellsLemmas.{get-routes_from}
 use Rattle.rs_table.proofs.cells.CloseLemmas.{none_below}

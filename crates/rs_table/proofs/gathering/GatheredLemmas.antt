@@ -12,10 +12,11 @@ use Rattle.std.proofs.lemmas.List.Elements.{All-weaker}
 use Rattle.std.proofs.lemmas.List.Folds.{list_any-append}
 use Rattle.std.proofs.lemmas.Option.{slice_get-get_or, slice_get_past}
 use Rattle.rs_types.specs.IpPrefix.{IpPrefix}
+use Rattle.rs_types.specs.PrefixOrder.{same_prefix}
 use Rattle.rs_change.specs.Change.{Change}
 use Rattle.rs_table.specs.Logged.{Logged}
 use Rattle.rs_table.specs.declared.log.Log.{Log}
-use Rattle.rs_table.specs.Left.{RouteLeft, same_prefix}
+use Rattle.rs_table.specs.Left.{RouteLeft}
 use Rattle.rs_table.specs.Gathered.{AreLogs, GathersTo, IsAdded, IsEntryOf, counts, entry_route, first_octet, is_current, is_of, left_after}
 use Rattle.rs_table.specs.Gathered.{left_at, left_in, lists_of, prefixes_in, routes_gathered}
 use Rattle.rs_table.proofs.PrefixLemmas.{prefix_total, find-entries}

@@ -12,10 +12,10 @@ use Rattle.std.specs.declared.cmp.Ordering.{Ordering}
 use Rattle.std.specs.declared.cmp.Ordering.TheVariants.{Less, Equal, Greater}
 use Rattle.std.proofs.lemmas.Bool.{cases_Bool, or_from, or_parts}
 use Rattle.rs_types.specs.IpPrefix.{IpPrefix}
-use Rattle.rs_types.specs.PrefixOrder.{prefix_cmp}
+use Rattle.rs_types.specs.PrefixOrder.{prefix_cmp, same_prefix}
 use Rattle.rs_choice.specs.Plan.{Plan}
 use Rattle.rs_choice.specs.Decision.{SentRoute, standing_of, choice, remaining, unbeaten}
-use Rattle.rs_table.specs.Left.{same_prefix, RouteLeft}
+use Rattle.rs_table.specs.Left.{RouteLeft}
 use Rattle.rs_table.specs.Content.{RibContent, TablesContent}
 use Rattle.rs_table.specs.Listing.{is_held}
 use Rattle.rs_table.specs.Table.{sent_by, TableRow, IsTable, entry_of_row, best_of, prefixes_held, table_of}

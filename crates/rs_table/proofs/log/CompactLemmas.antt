@@ -17,9 +17,9 @@ use Rattle.std.proofs.lemmas.List.Kept.{IsStrictlySortedBy-dedup, IsStrictlySort
 use Rattle.std.proofs.lemmas.List.Filters.{All-dedup}
 use Rattle.std.proofs.lemmas.List.Sorted.{All-permutation, IsPermutation-reverse}
 use Rattle.rs_types.specs.IpPrefix.{IpPrefix}
-use Rattle.rs_types.specs.PrefixOrder.{prefix_cmp}
+use Rattle.rs_types.specs.PrefixOrder.{prefix_cmp, same_prefix}
 use Rattle.rs_table.specs.Logged.{Logged}
-use Rattle.rs_table.specs.Left.{RouteLeft, same_prefix}
+use Rattle.rs_table.specs.Left.{RouteLeft}
 use Rattle.rs_table.specs.Gathered.{announces, counts, entry_route, is_current, is_of, left_in, logged_cmp, IsAnnounced}
 use Rattle.rs_table.proofs.LeftLemmas.{find_last_more, find_none, list_any-reverse, or_none}
 use Rattle.rs_table.proofs.PrefixLemmas.{prefix_total}

@@ -7,8 +7,9 @@ use Rattle.std.proofs.lemmas.Bool.{cases_Bool, and_right}
 use Rattle.std.proofs.lemmas.List.{reverse-append}
 use Rattle.std.proofs.lemmas.List.Elements.{All-head, All-tail}
 use Rattle.rs_types.specs.IpPrefix.{IpPrefix}
+use Rattle.rs_types.specs.PrefixOrder.{same_prefix}
 use Rattle.rs_table.specs.Logged.{Logged}
-use Rattle.rs_table.specs.Left.{RouteLeft, same_prefix}
+use Rattle.rs_table.specs.Left.{RouteLeft}
 use Rattle.rs_table.specs.Gathered.{counts, entry_route, first_octet, is_current, left_over}
 use Rattle.rs_table.proofs.LeftLemmas.{find_last_more, find_none, list_any-reverse}
 use Rattle.rs_table.proofs.PrefixLemmas.{same_prefix-true}

@@ -12,10 +12,10 @@ use Rattle.std.proofs.lemmas.List.{length-map}
 use Rattle.rs_choice.specs.Held.{sent_of_held}
 use Rattle.std.proofs.lemmas.Bool.Decides.{eqb_tells}
 use Rattle.rs_types.specs.IpPrefix.{IpPrefix}
-use Rattle.rs_types.specs.PrefixOrder.{prefix_cmp}
+use Rattle.rs_types.specs.PrefixOrder.{prefix_cmp, same_prefix}
 use Rattle.rs_choice.specs.Decision.{SentRoute}
 use Rattle.rs_choice.specs.Plan.{Plan}
-use Rattle.rs_table.specs.Left.{same_prefix, RouteLeft}
+use Rattle.rs_table.specs.Left.{RouteLeft}
 use Rattle.rs_table.specs.Content.{RibContent}
 use Rattle.rs_table.specs.Listing.{is_held}
 use Rattle.rs_table.specs.Table.{prefixes_held}

@@ -11,10 +11,10 @@ use Rattle.std.specs.List.Sorted.{IsStrictlySortedBy}
 use Rattle.std.proofs.lemmas.Bool.Decides.{eqb_tells, nat_tests}
 use Rattle.std.proofs.lemmas.List.Elements.{All-cons, All-from_recursion, All-weaker}
 use Rattle.rs_types.specs.IpPrefix.{IpPrefix}
-use Rattle.rs_types.specs.PrefixOrder.{prefix_cmp}
+use Rattle.rs_types.specs.PrefixOrder.{prefix_cmp, same_prefix}
 use Rattle.rs_choice.specs.Decision.{SentRoute}
 use Rattle.rs_table.specs.ByPeer.{IsRow, route_at}
-use Rattle.rs_table.specs.Left.{RouteLeft, same_prefix}
+use Rattle.rs_table.specs.Left.{RouteLeft}
 use Rattle.rs_table.specs.Logged.{Logged}
 use Rattle.rs_table.specs.declared.settling.Making.{Making}
 use Rattle.rs_table.specs.Cells.{Entries, routes_at}

@@ -8,9 +8,10 @@ use Rattle.std.proofs.lemmas.Bool.{cases_Bool, cases_lt, eq-eqb}
 use Rattle.std.proofs.lemmas.Bool.Decides.{eqb_tells}
 use Rattle.std.proofs.lemmas.List.{get_or_past}
 use Rattle.rs_types.specs.IpPrefix.{IpPrefix}
+use Rattle.rs_types.specs.PrefixOrder.{same_prefix}
 use Rattle.rs_change.specs.Change.{Change, ChangeBody, Announced, Withdrawn, Lost, Closed}
 use Rattle.rs_choice.specs.Plan.{Plan}
-use Rattle.rs_table.specs.Left.{RouteLeft, after, same_prefix, bears_on, drops_routes, reason_drops, body_route, body_drops, body_loses}
+use Rattle.rs_table.specs.Left.{RouteLeft, after, bears_on, drops_routes, reason_drops, body_route, body_drops, body_loses}
 use Rattle.rs_table.specs.Left.{body_prefix, IsNewBody}
 use Rattle.rs_table.specs.Content.{TablesContent, nothing_held, rib_of}
 use Rattle.rs_table.specs.Listing.{is_held}

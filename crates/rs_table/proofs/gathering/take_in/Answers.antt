@@ -2,10 +2,11 @@
 use Rattle.std.proofs.Common.{◌≡◌, refl, sym, get_or, cond, true, false, rules, Option, Some, None}
 use Rattle.std.proofs.lemmas.Result.{on_ok_weaker}
 use Rattle.rs_types.specs.IpPrefix.{IpPrefix}
+use Rattle.rs_types.specs.PrefixOrder.{same_prefix}
 use Rattle.rs_change.specs.Change.{change_of}
 use Rattle.rs_change.specs.declared.word.Reason.{Reason}
 use Rattle.rs_change.specs.declared.word.Reason.TheVariants as reasons
-use Rattle.rs_table.specs.Left.{RouteLeft, reason_drops, same_prefix}
+use Rattle.rs_table.specs.Left.{RouteLeft, reason_drops}
 use Rattle.rs_table.specs.Gathered.{left_after, entry_route, IsAdded}
 use Rattle.rs_table.specs.Logged.{Logged}
 use Rattle.rs_table.proofs.gathering.GatheredLemmas.{entered, idle, lost, lost-all, lost-many}

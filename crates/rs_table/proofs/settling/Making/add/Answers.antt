@@ -6,12 +6,12 @@ use Rattle.std.proofs.lemmas.List.{map-append}
 use Rattle.std.proofs.lemmas.List.Elements.{All-push}
 use Rattle.rs_types.specs.IpPrefix.{IpPrefix}
 use Rattle.rs_types.specs.PathAttributes.{PathAttributes}
-use Rattle.rs_types.specs.PrefixOrder.{prefix_cmp}
+use Rattle.rs_types.specs.PrefixOrder.{prefix_cmp, same_prefix}
 use Rattle.rs_choice.specs.Decision.{SentRoute}
 use Rattle.rs_choice.specs.Held.{sent_of_held, IsJudged}
 use Rattle.rs_table.specs.ByPeer.{IsRow, route_at}
 use Rattle.rs_table.specs.Gathered.{entry_route, is_of}
-use Rattle.rs_table.specs.Left.{RouteLeft, same_prefix}
+use Rattle.rs_table.specs.Left.{RouteLeft}
 use Rattle.rs_table.specs.Making.{routes_here}
 use Rattle.rs_table.proofs.settling.MakingLemmas.{added, ascends-later, IsRow-behind, peer-later}
 use Rattle.rs_table.proofs.settling.Making.add.Goals as goal

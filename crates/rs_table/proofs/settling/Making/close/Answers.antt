@@ -1,9 +1,9 @@
 -- The cell of the prefix comes to the others.
 use Rattle.std.proofs.Common.{◌∙◌, Some, ap, refl, subst, sym, inl, inr}
 use Rattle.std.proofs.lemmas.Bool.{cases_Bool}
+use Rattle.rs_types.specs.PrefixOrder.{same_prefix}
 use Rattle.rs_table.specs.Cell.{IsKeptCell}
 use Rattle.rs_table.specs.Cells.{AreKeptCells, routes_of}
-use Rattle.rs_table.specs.Left.{same_prefix}
 use Rattle.rs_table.proofs.cells.CellsLemmas.{each-insert, at-update}
 use Rattle.rs_table.proofs.settling.Making.close.Goals as goal
 
