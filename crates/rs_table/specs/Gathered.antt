@@ -1,7 +1,7 @@
 -- Changes that are collected in lists, one list for each first octet of a prefix, and the routes that they leave
 -- (our choice).
-use Rattle.std.specs.Prelude.{◌≡◌, ◌≤◌, ◌/◌, ◌^◌, ℕ, ◌==◌, Bool, true, false, ◌&&◌, if◌then◌else◌, List, [], All}
-use Rattle.std.specs.Prelude.{Option, None, length, map, reverse, slice_get, slice_index_or}
+use Rattle.std.specs.Prelude.{◌≡◌, ◌≤◌, ◌/◌, ◌^◌, ℕ, ◌==◌, Bool, true, false, not, ◌&&◌, if◌then◌else◌, List, [], All}
+use Rattle.std.specs.Prelude.{Option, None, filter, length, map, reverse, slice_get, slice_index_or}
 use Rattle.std.specs.List.{find, filter_map, flat_map}
 use Rattle.std.specs.Option.{is_some, option_map, option_map_or}
 use Rattle.std.specs.Ordering.{nat_cmp, ordering_then}
@@ -69,6 +69,10 @@ routes_gathered losses logs peer =
     from_entries (filter_map (λ prefix. option_map (λ route. (prefix, route)) (left_at losses logs peer prefix))
     (prefixes_in (lists_of logs)))
 
+-- the entries of all peers but one
+abbrev pub of_others : ℕ → List Logged → List Logged
+of_others peer entries = filter (λ entry. not (entry.peer == peer)) entries
+
 -- an entry of the list of an octet: its prefix begins with the octet, and it does not count more losses than its
 -- peer has now
 pub record IsEntryOf (losses : List ℕ) (octet : ℕ) (entry : Logged) : Type 0 where
@@ -91,6 +95,12 @@ GathersTo peer change losses logs losses_then logs_then =
     (other : ℕ) (prefix : IpPrefix) → left_at losses_then logs_then other prefix
     ≡ (if peer == other then left_after change prefix (left_at losses logs other prefix)
     else left_at losses logs other prefix)
+
+-- a loss of a peer turns the old lists into the new ones: they leave the peer nothing
+abbrev pub LosesTo : ℕ → List ℕ → List Log → List ℕ → List Log → Type 0
+LosesTo peer losses logs losses_then logs_then =
+    (other : ℕ) (prefix : IpPrefix) → left_at losses_then logs_then other prefix
+    ≡ (if peer == other then None else left_at losses logs other prefix)
 
 -- an entry turns the old lists into the new ones
 abbrev pub IsAdded : List ℕ → Logged → List Log → List Log → Type 0

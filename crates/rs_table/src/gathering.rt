@@ -3,13 +3,13 @@
 //! A change is appended to the list of its prefix's first octet, and a loss of a session is counted: what each
 //! peer has left, and what each client gets, is found once, when all changes came (our choice).
 
-ghost use Rattle.std.specs.Prelude.{◌≡◌, ◌≢◌, ◌+◌, ◌<◌, ◌≤◌, ℕ, false, [], IfOk, OnOk, OnErr, length};
-ghost use Rattle.std.specs.Prelude.{slice_index_or, slice_set};
-ghost use Rattle.std.specs.Option.{option_map};
+ghost use Rattle.std.specs.Prelude.{◌≡◌, ◌≢◌, ◌<◌, ◌≤◌, ℕ, false, [], IfOk, OnOk, OnErr, length};
+ghost use Rattle.std.specs.Prelude.{slice_index_or, true};
+ghost use Rattle.std.specs.Option.{is_some, option_map};
 ghost use Rattle.rs_change.specs.Change.{change_of, is_close};
 ghost use Rattle.rs_table.specs.Content.{nothing_held, rib_of};
-ghost use Rattle.rs_table.specs.Gathered.{AreLogs, GathersTo, IsAdded, lists_of};
-ghost use Rattle.rs_table.specs.Left.{BecomeBy};
+ghost use Rattle.rs_table.specs.Gathered.{AreLogs, GathersTo, IsAdded, LosesTo, lists_of, of_others};
+ghost use Rattle.rs_table.specs.Left.{BecomeBy, body_prefix};
 
 use crate::counts::is_some_open;
 use crate::log::{Log, first_octet};
@@ -122,8 +122,8 @@ impl Gathering {
 
     /// Takes the next change of the peer of number `peer`, as `Tables::apply` does.
     ///
-    /// Fails if memory is refused, or if a session is lost for the 2^32nd time. After a failure nothing is promised
-    /// about what was collected.
+    /// Only an announcement or a withdrawal can fail, if memory is refused. After a failure nothing is promised about
+    /// what was collected.
     pub fn receive(&mut self, peer: usize, word: Word) -> Result<(), AllocError>
         requires known { peer < length self.old.plan.peers }
         requires open { (rib_of self.old peer).closed ≡ false }
@@ -133,6 +133,7 @@ impl Gathering {
         ensures others { OnOk result ((other : ℕ) → other ≢ peer → rib_of self.new other ≡ rib_of self.old other) }
         ensures plan { OnOk result (self.new.plan ≡ self.old.plan) }
         ensures count { OnOk result (length self.new.ribs ≡ length self.old.ribs) }
+        ensures refused { OnErr result (is_some (body_prefix (change_of word).body) ≡ true) }
     {
         // For the prover: there are at most 256 peers, so the number of each is an octet.
         let _count = self.plan.count();
@@ -176,13 +177,14 @@ fn empty_logs(alloc: Global, few: usize) -> Result<Vec<Log>, AllocError>
     Ok(logs)
 }
 
-// Takes a change of a peer into the lists.
+// Takes a change of a peer into the lists. Only a change on a prefix can fail, if memory is refused.
 fn take_in(logs: &mut [Log], losses: &mut [u32], peer: usize, word: Word) -> Result<(), AllocError>
     requires known { (peer < length losses.old) × (peer < MAX_PEERS) }
     requires logs { AreLogs losses.old logs.old }
     ensures routes { OnOk result (GathersTo peer (change_of word) losses.old logs.old losses.new logs.new) }
     ensures logs { AreLogs losses.new logs.new }
     ensures count { length losses.new ≡ length losses.old }
+    ensures refused { OnErr result (is_some (body_prefix (change_of word).body) ≡ true) }
 {
     let Word { time, body } = word;
     match body {
@@ -190,12 +192,15 @@ fn take_in(logs: &mut [Log], losses: &mut [u32], peer: usize, word: Word) -> Res
             enter(logs, losses, peer, time, prefix, Some(attributes))
         }
         Body::Withdraw(prefix) => enter(logs, losses, peer, time, prefix, None),
-        Body::Down => lose(losses, peer),
+        Body::Down => {
+            lose(logs, losses, peer);
+            Ok(())
+        }
         Body::Close(reason) => {
-            if reason == Reason::EndOfFile {
-                return Ok(());
+            if reason != Reason::EndOfFile {
+                lose(logs, losses, peer);
             }
-            lose(losses, peer)
+            Ok(())
         }
     }
 }
@@ -224,15 +229,30 @@ fn enter(
     logs[first_octet(prefix)].push(entry, losses)
 }
 
-// Counts a loss of a peer, whose entries so far are void by it.
-fn lose(losses: &mut [u32], peer: usize) -> Result<(), AllocError>
-    requires { peer < length losses.old }
-    ensures lost { OnOk result (losses.new ≡ slice_set losses.old peer (slice_index_or losses.old peer 0 + 1)) }
-    ensures err { OnErr result (losses.new ≡ losses.old) }
+// Counts a loss of a peer: its entries so far are void by it. If the count has reached its limit, they are removed, and
+// the count begins anew.
+fn lose(logs: &mut [Log], losses: &mut [u32], peer: usize)
+    requires known { peer < length losses.old }
+    requires logs { AreLogs losses.old logs.old }
+    ensures routes { LosesTo peer losses.old logs.old losses.new logs.new }
+    ensures logs { AreLogs losses.new logs.new }
+    ensures count { length losses.new ≡ length losses.old }
 {
     let Some(more) = losses[peer].checked_add(1) else {
-        return Err(AllocError);
+        forget(logs, peer);
+        losses[peer] = 0;
+        return;
     };
     losses[peer] = more;
-    Ok(())
+}
+
+// Removes the entries of a peer.
+fn forget(logs: &mut [Log], peer: usize)
+    ensures lists { (octet : ℕ) → slice_index_or (lists_of logs.new) octet []
+        ≡ of_others peer (slice_index_or (lists_of logs.old) octet []) }
+    ensures count { length logs.new ≡ length logs.old }
+{
+    for log in logs.iter_mut() {
+        log.forget(peer);
+    }
 }

@@ -4,7 +4,7 @@ ghost use Rattle.std.specs.Prelude.{◌≡◌, ◌/◌, ◌^◌, ◌<◌, ℕ, A
 ghost use Rattle.std.specs.List.Sorted.{IsStrictlySortedBy};
 ghost use Rattle.rs_types.specs.IpPrefix.{IpPrefix};
 ghost use Rattle.rs_table.specs.Gathered.{IsEntryOf, counts, entry_route, first_octet, left_in};
-ghost use Rattle.rs_table.specs.Gathered.{logged_cmp, IsAnnounced};
+ghost use Rattle.rs_table.specs.Gathered.{logged_cmp, of_others, IsAnnounced};
 
 use crate::logged::LoggedChange;
 use rs_types::Prefix;
@@ -40,6 +40,14 @@ impl Log {
         self.make_room(losses)?;
         self.entries.push(entry)?;
         Ok(())
+    }
+
+    // Removes the changes of a peer.
+    pub(crate) fn forget(&mut self, peer: usize)
+        ensures { self.new.entries.items ≡ of_others peer self.old.entries.items }
+    {
+        self.entries
+            .retain(|entry| usize::from(entry.peer()) != peer);
     }
 
     // Compacts the list if it has as many entries as its limit. Its limit is then twice what is left.

@@ -108,6 +108,14 @@ impl LoggedChange {
         }
     }
 
+    /// Its peer.
+    pub(crate) fn peer(&self) -> u8
+        ensures { result ≡ self.now.peer }
+    {
+        let (_, peer) = self.key();
+        peer
+    }
+
     /// By what changes are sorted: their prefix's address and length, then their peer.
     pub(crate) fn key(&self) -> ((u32, u8), u8)
         ensures { result ≡ ((self.now.prefix.address, self.now.prefix.len), self.now.peer) }

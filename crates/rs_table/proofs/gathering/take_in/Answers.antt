@@ -9,16 +9,15 @@ use Rattle.rs_change.specs.declared.word.Reason.TheVariants as reasons
 use Rattle.rs_table.specs.Left.{RouteLeft, reason_drops}
 use Rattle.rs_table.specs.Gathered.{left_after, entry_route, IsAdded}
 use Rattle.rs_table.specs.Logged.{Logged}
-use Rattle.rs_table.proofs.gathering.GatheredLemmas.{entered, idle, lost, lost-all, lost-many}
+use Rattle.rs_table.proofs.gathering.GatheredLemmas.{entered, idle, lost, on_err-always}
 use Rattle.rs_table.proofs.gathering.take_in.Goals as goal
 
 pub returns-in-Down-clause-routes : goal.returns-in-Down-clause-routes
 returns-in-Down-clause-routes c =
     let ends : (q : IpPrefix) (before : Option RouteLeft) → left_after (change_of c.args.word) q before ≡ None =
     λ q before. rw c.in-Down.is refl in
-    on_ok_weaker c.lose.result (λ later_is. lost c.args.losses.now c.args.peer c.requires.known.0 c.lose.new.losses later_is
-    (change_of c.args.word) ends c.args.logs.now c.requires.logs)
-    c.lose.ensures.lost
+    lost c.args.losses.now c.args.peer c.lose.new.losses (change_of c.args.word) ends c.args.logs.now c.lose.new.logs
+    c.lose.ensures.routes
 
 drops : (reason : Reason) → (reason ≡ reasons.EndOfFile → true ≡ false) → reason_drops reason ≡ true
 drops reasons.EndOfFile apart = sym (apart refl)
@@ -27,16 +26,15 @@ drops (reasons.Mrt fault) apart = refl
 drops reasons.Memory apart = refl
 drops reasons.Read apart = refl
 
-pub returns-else-eq-clause-routes : goal.returns-else-eq-clause-routes
-returns-else-eq-clause-routes c =
+pub returns-then-ne-clause-routes : goal.returns-then-ne-clause-routes
+returns-then-ne-clause-routes c =
     let reason : Reason = c.in-Close.reason in
     let other : reason ≡ reasons.EndOfFile → true ≡ false = λ same. search rules in
     let falls : reason_drops reason ≡ true = drops reason other in
     let ends : (q : IpPrefix) (before : Option RouteLeft) → left_after (change_of c.args.word) q before ≡ None =
     λ q before. rw (c.in-Close.is, falls) refl in
-    on_ok_weaker c.lose-in-Close.result (λ later_is. lost c.args.losses.now c.args.peer c.requires.known.0 c.lose-in-Close.new.losses
-    later_is (change_of c.args.word) ends c.args.logs.now c.requires.logs)
-    c.lose-in-Close.ensures.lost
+    lost c.args.losses.now c.args.peer c.lose-then-ne.new.losses (change_of c.args.word) ends c.args.logs.now c.lose-then-ne.new.logs
+    c.lose-then-ne.ensures.routes
 
 pub returns-in-Announce-clause-routes : goal.returns-in-Announce-clause-routes
 returns-in-Announce-clause-routes c =
@@ -72,29 +70,16 @@ returns-in-Withdraw-clause-routes c =
     entered losses entry (change_of c.args.word) c.args.logs.now c.enter-in-Withdraw.new.logs c.requires.known.0 refl makes is_added)
     c.enter-in-Withdraw.ensures.routes
 
-pub returns-then-eq-clause-routes : goal.returns-then-eq-clause-routes
-returns-then-eq-clause-routes c =
+pub returns-else-ne-clause-routes : goal.returns-else-ne-clause-routes
+returns-else-ne-clause-routes c =
     let reason : Reason = c.in-Close.reason in
     let end : reason ≡ reasons.EndOfFile = search rules in
     let stays : (q : IpPrefix) (before : Option RouteLeft) → left_after (change_of c.args.word) q before ≡ before =
     λ q before. rw (c.in-Close.is, end) refl in
     idle c.args.losses.now c.args.peer (change_of c.args.word) c.args.logs.now stays
 
-pub returns-in-Down-clause-logs : goal.returns-in-Down-clause-logs
-returns-in-Down-clause-logs c =
-    lost-all c.args.losses.now c.args.peer c.requires.known.0 c.lose.new.losses c.lose.result c.lose.ensures.lost c.lose.ensures.err
-    c.args.logs.now c.requires.logs
+pub returns-in-Announce-clause-refused : goal.returns-in-Announce-clause-refused
+returns-in-Announce-clause-refused c = rw c.in-Announce.is (on_err-always c.enter.result refl)
 
-pub returns-in-Down-clause-count : goal.returns-in-Down-clause-count
-returns-in-Down-clause-count c =
-    lost-many c.args.losses.now c.args.peer c.lose.new.losses c.lose.result c.lose.ensures.lost c.lose.ensures.err
-
-pub returns-else-eq-clause-logs : goal.returns-else-eq-clause-logs
-returns-else-eq-clause-logs c =
-    lost-all c.args.losses.now c.args.peer c.requires.known.0 c.lose-in-Close.new.losses c.lose-in-Close.result
-    c.lose-in-Close.ensures.lost c.lose-in-Close.ensures.err c.args.logs.now c.requires.logs
-
-pub returns-else-eq-clause-count : goal.returns-else-eq-clause-count
-returns-else-eq-clause-count c =
-    lost-many c.args.losses.now c.args.peer c.lose-in-Close.new.losses c.lose-in-Close.result c.lose-in-Close.ensures.lost
-    c.lose-in-Close.ensures.err
+pub returns-in-Withdraw-clause-refused : goal.returns-in-Withdraw-clause-refused
+returns-in-Withdraw-clause-refused c = rw c.in-Withdraw.is (on_err-always c.enter-in-Withdraw.result refl)
