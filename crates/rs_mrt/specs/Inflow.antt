@@ -98,6 +98,8 @@ module _ {R : Type 0} (gives : R → List ℕ → ReadEnd → Type 0) (failures 
     pub came : new.came ≡ old.came + length piece
     pub within : new.came ≤ read_limit
     pub counts : CountsCall (failures old.reader) (failures new.reader) new.came result
+    -- at the limit the reader is not called
+    pub at_limit : old.came ≡ read_limit → new.reader ≡ old.reader
 
   -- the octets that came stand behind those that were there before
   pub record Fills (old new : Inflow R) (before after : List ℕ) (result : Result Bool Failed) : Type 0 where

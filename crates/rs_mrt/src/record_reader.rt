@@ -118,6 +118,8 @@ impl<R: Read> Source for RecordReader<R> {
         ensures stops { Stops self.new.stopped result }
         // After an end or a fault, the reader is never read again.
         ensures asks_no_more { StaysStopped self.old self.new result }
+        // Nor is it once 2^50 octets came.
+        ensures at_limit { self.old.inflow.came ≡ read_limit → self.new.inflow.reader ≡ self.old.inflow.reader }
     {
         if let Some(answer) = self.stopped {
             return answer;

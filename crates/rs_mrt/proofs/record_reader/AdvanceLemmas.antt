@@ -7,7 +7,7 @@ use Rattle.rs_mrt.specs.Reader.{ReadEnd}
 use Rattle.rs_mrt.specs.Record.{MrtRecord, octets_of, length_field, has_record, front_record}
 use Rattle.rs_mrt.specs.Entry.{front_len, front_of}
 use Rattle.rs_mrt.specs.Source.{Advances}
-use Rattle.rs_mrt.specs.RecordReading.{MayArrive, MayBeShown, MayCome, RecordReading, ComesUnless, room_left}
+use Rattle.rs_mrt.specs.RecordReading.{MayArrive, MayBeShown, MayCome, RecordReading, ComesUnless, read_limit, room_left}
 use Rattle.rs_mrt.specs.Inflow.{FindsRecord, FindsNone, GoesOn}
 use Rattle.rs_mrt.proofs.record.RecordLemmas.{length-after_record, has_record-long}
 use Rattle.rs_mrt.proofs.record_reader.FrontLemmas.{none_shown, one_shown}
@@ -76,3 +76,12 @@ module _ {R : Type 0} (gives : R → List ℕ → ReadEnd → Type 0) (failures 
       omega (arith, held, shown, front, most, all, found.drawn.came, found.drawn.within)
   goes-room old new (Ok false) goes = goes-none old new (Ok false) goes.0 goes.1
   goes-room old new (Err fault) goes = goes-none old new (Err fault) goes.0 goes.1
+
+  -- ---- the limit
+
+  -- at the limit the reader stays as it was
+  pub goes-limit : (old new : RecordReading R) (result : Result Bool SourceFault) → GoesOn gives failures old new result
+      → old.inflow.came ≡ read_limit → new.inflow.reader ≡ old.inflow.reader
+  goes-limit old new (Ok true) goes full = goes.0.drawn.at_limit full
+  goes-limit old new (Ok false) goes full = goes.0.drawn.at_limit full
+  goes-limit old new (Err fault) goes full = goes.0.drawn.at_limit full

@@ -100,6 +100,7 @@ module _ {R : Type 0} (gives : R → List ℕ → ReadEnd → Type 0) (failures 
         came = omega (arith, first.came, second.came, length-append p q);
         within = second.within;
         counts = subst (λ (n : ℕ). CountsCall n (failures new.reader) new.came r) first.counts second.counts;
+        at_limit = λ full. second.at_limit (omega (arith, full, first.came, first.within)) ∙ first.at_limit full;
       }
 
   counts_given : (n before after came : ℕ) → after ≡ before → CountsCall before after came (gave_some (Ok n))
@@ -118,13 +119,20 @@ module _ {R : Type 0} (gives : R → List ℕ → ReadEnd → Type 0) (failures 
         came = omega arith;
         within = omega arith;
         counts = counts_given n (failures old.reader) (failures new.reader) new.came counts;
+        at_limit = λ full. absurd (omega (arith, full, some, fits));
       }
 
   -- it isn't called at the limit
   pub Draws-full : (inflow : Inflow R) (failed : Failed) → inflow.came ≡ read_limit → SomethingIsGiven (gives inflow.reader)
       → Draws gives failures inflow inflow [] (Err failed)
   Draws-full inflow failed full some =
-      record { behind = arrive-full gives inflow full some; came = omega arith; within = omega arith; counts = inr (refl, full) }
+      record {
+        behind = arrive-full gives inflow full some;
+        came = omega arith;
+        within = omega arith;
+        counts = inr (refl, full);
+        at_limit = λ again. refl;
+      }
 
   -- ---- a window
 
@@ -134,7 +142,13 @@ module _ {R : Type 0} (gives : R → List ℕ → ReadEnd → Type 0) (failures 
       record {
         piece = [];
         filled = sym (append-nil held);
-        drawn = record { behind = λ later end may. may; came = omega arith; within = within; counts = refl };
+        drawn = record {
+          behind = λ later end may. may;
+          came = omega arith;
+          within = within;
+          counts = refl;
+          at_limit = λ full. refl;
+        };
       }
 
   pub Fills-then : (old mid new : Inflow R) (before between after : List ℕ) (r : Result Bool Failed)
@@ -161,6 +175,7 @@ module _ {R : Type 0} (gives : R → List ℕ → ReadEnd → Type 0) (failures 
           came = fills.drawn.came;
           within = fills.drawn.within;
           counts = fills.drawn.counts;
+          at_limit = fills.drawn.at_limit;
         };
       }
 
@@ -189,7 +204,13 @@ module _ {R : Type 0} (gives : R → List ℕ → ReadEnd → Type 0) (failures 
       let drawn = Draws-then old mid new first.piece second.piece (Err failed) first.drawn second.drawn in
       record {
         piece = first.piece ++ second.piece;
-        drawn = record { behind = drawn.behind; came = drawn.came; within = drawn.within; counts = drawn.counts };
+        drawn = record {
+          behind = drawn.behind;
+          came = drawn.came;
+          within = drawn.within;
+          counts = drawn.counts;
+          at_limit = drawn.at_limit;
+        };
         most = omega (arith, first.counted, second.empty, length-append first.piece second.piece);
         enough = omega (arith, first.counted, second.empty, length-append first.piece second.piece);
       }

@@ -1,6 +1,6 @@
 use Rattle.std.proofs.Common.{◌≡◌, None, ap, subst, sym, ◌∙◌}
 use Rattle.rs_mrt.specs.Inflow.{GoesOn}
-use Rattle.rs_mrt.proofs.record_reader.AdvanceLemmas.{goes-advances, goes-room}
+use Rattle.rs_mrt.proofs.record_reader.AdvanceLemmas.{goes-advances, goes-limit, goes-room}
 use Rattle.rs_mrt.proofs.record_reader.RecordReaderSource.advance.Goals as goal
 
 pub returns-clause-records : goal.returns-clause-records
@@ -14,4 +14,10 @@ pub returns-clause-room : goal.returns-clause-room
 returns-clause-room g c =
     let R = g.R.Read in
     goes-room R.gives R.failures (record c.args.self.now { shown = None }) c.go_on.new.self c.go_on.result
+    (subst (λ r. GoesOn R.gives R.failures r c.go_on.new.self c.go_on.result) c.drop_shown.ensures c.go_on.ensures)
+
+pub returns-clause-at_limit : goal.returns-clause-at_limit
+returns-clause-at_limit g c =
+    let R = g.R.Read in
+    goes-limit R.gives R.failures (record c.args.self.now { shown = None }) c.go_on.new.self c.go_on.result
     (subst (λ r. GoesOn R.gives R.failures r c.go_on.new.self c.go_on.result) c.drop_shown.ensures c.go_on.ensures)
