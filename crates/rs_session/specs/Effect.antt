@@ -1,11 +1,12 @@
 -- What a record means for the session of one peer (RFC 6396, sections 4.4.3 and 4.4.4; RFC 4271, sections 4.2 to 4.5
 -- and 6).
-use Rattle.std.specs.Prelude.{ℕ, not, ◌&&◌, ◌==◌, List, [], ◌∷◌, Result, Ok, Err, if◌then◌else◌}
+use Rattle.std.specs.Prelude.{◌≡◌, ℕ, true, not, ◌&&◌, ◌==◌, List, [], ◌∷◌, Result, Ok, Err, if◌then◌else◌}
 use Rattle.rs_mrt.specs.Entry.{Meaning, Message, State, Other, entry_of}
 use Rattle.rs_mrt.specs.Fault.{number_of}
 use Rattle.rs_mrt.specs.Record.{MrtRecord}
 use Rattle.rs_mrt.specs.declared.fault.MrtFault.{MrtFault}
 use Rattle.rs_update.specs.Message.{MessageContent, IsOpen, IsUpdate, IsTreated, IsNotification, IsKeepAlive, IsRefresh}
+use Rattle.rs_update.specs.Message.{ListsPrefix}
 use Rattle.rs_update.specs.Treating.{message_by}
 use Rattle.rs_update.specs.declared.errors.Errors.{Errors}
 use Rattle.rs_update.specs.declared.fault.MessageFault.{MessageFault}
@@ -65,3 +66,15 @@ effect_of_entry errors peer time (Err fault) = Ends (reasons.Mrt (number_of faul
 -- the effect of a record on the session of a peer
 unfoldable pub effect_of : Errors → PeerId → MrtRecord → RecordEffect
 effect_of errors peer r = effect_of_entry errors peer r.time (entry_of r)
+
+-- an entry that takes memory: an UPDATE of the peer without a fault that lists a prefix
+abbrev pub EntryLists : Errors → PeerId → Result Meaning MrtFault → Type 0
+EntryLists errors peer (Ok (Message asn address octets)) =
+    (is_of peer asn address ≡ true) × ListsPrefix (message_by errors octets)
+EntryLists errors peer (Ok (State asn address old new)) = ⊥
+EntryLists errors peer (Ok Other) = ⊥
+EntryLists errors peer (Err fault) = ⊥
+
+-- a record that takes memory, by its entry
+abbrev pub ListsPrefixOf : Errors → PeerId → MrtRecord → Type 0
+ListsPrefixOf errors peer r = EntryLists errors peer (entry_of r)

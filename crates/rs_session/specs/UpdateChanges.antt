@@ -1,19 +1,16 @@
 -- The route changes of one UPDATE (RFC 4271, sections 3.1 and 4.3).
-use Rattle.std.specs.Prelude.{ℕ, Bool, not, ◌&&◌, ◌==◌, List, [], ◌++◌, Option, Some, None, map, filter}
+use Rattle.std.specs.Prelude.{ℕ, Bool, true, false, not, ◌&&◌, List, [], ◌∷◌, ◌++◌, Option, Some, None, map, filter}
 use Rattle.std.specs.List.{list_any}
 use Rattle.rs_update.specs.IpPrefix.{IpPrefix}
 use Rattle.rs_update.specs.Message.{UpdateContent, TreatedContent}
 use Rattle.rs_update.specs.PathAttributes.{PathAttributes}
 use Rattle.rs_update.specs.Prefix.{is_multicast}
-use Rattle.rs_change.specs.Change.{Change, Announced, Withdrawn}
-
--- whether two prefixes are the same
-abbrev pub is_prefix : IpPrefix → IpPrefix → Bool
-is_prefix one other = (one.address == other.address) && (one.len == other.len)
+use Rattle.rs_update.specs.PrefixOrder.{same_prefix}
+use Rattle.rs_change.specs.Change.{Change, ChangeBody, Announced, Withdrawn, Lost, Closed}
 
 -- whether a prefix stands in a list
 abbrev pub is_listed : List IpPrefix → IpPrefix → Bool
-is_listed prefixes prefix = list_any (λ other. is_prefix other prefix) prefixes
+is_listed prefixes prefix = list_any (λ other. same_prefix other prefix) prefixes
 
 -- the prefixes that routes can have: multicast prefixes give no change (our choice)
 abbrev pub unicast : List IpPrefix → List IpPrefix
@@ -50,3 +47,14 @@ abbrev pub changes_of_treated : ℕ → TreatedContent → List Change
 changes_of_treated time treated =
     map (withdraws time) (withdrawn_only treated.withdrawn treated.nlri)
     ++ map (withdraws time) (unicast treated.nlri)
+
+-- the next change is an announcement: only this one shares its attributes with others
+abbrev pub is_announcement : ChangeBody → Bool
+is_announcement (Announced prefix attributes) = true
+is_announcement (Withdrawn prefix) = false
+is_announcement Lost = false
+is_announcement (Closed reason) = false
+
+abbrev pub announces_next : List Change → Bool
+announces_next [] = false
+announces_next (change ∷ later) = is_announcement change.body

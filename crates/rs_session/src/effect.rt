@@ -5,10 +5,11 @@
 //! Established to another state counts. After a loss and after a NOTIFICATION reading goes on, whatever the
 //! recorded state is. A fault of the recording or of a message closes the session.
 
-ghost use Rattle.std.specs.Prelude.{◌≡◌, IfOk};
+ghost use Rattle.std.specs.Prelude.{◌≡◌, IfOk, OnErr};
 ghost use Rattle.rs_mrt.specs.Record.{record_of};
+ghost use Rattle.rs_update.specs.Message.{ListsPrefix};
 ghost use Rattle.rs_update.specs.Treating.{message_by};
-ghost use Rattle.rs_session.specs.Effect.{effect_of, effect_of_message, effect_of_state};
+ghost use Rattle.rs_session.specs.Effect.{ListsPrefixOf, effect_of, effect_of_message, effect_of_state};
 ghost use Rattle.rs_session.specs.EffectView.{effect_value, IsRecorded};
 
 use crate::peer::PeerId;
@@ -35,7 +36,7 @@ pub enum Effect {
 /// Reads what a record says to the session of a peer (RFC 6396, sections 4.4.3 and 4.4.4), faults in messages being
 /// handled by one of the standards. The record counts alone: what the session said before makes no difference.
 ///
-/// Nothing is allocated for a record that is passed over.
+/// Only an UPDATE of the peer that lists a prefix can fail, if memory is refused.
 #[tactic(auto, unfolding(crate::specs::Effect::effect_of))]
 pub fn read_record(
     alloc: Global,
@@ -45,6 +46,7 @@ pub fn read_record(
 ) -> Result<Effect, AllocError>
     ensures says { IfOk result (λ effect. effect_value effect ≡ effect_of errors peer (record_of «record».now)) }
     ensures recorded { IfOk result IsRecorded }
+    ensures refused { OnErr result (ListsPrefixOf errors peer (record_of «record».now)) }
 {
     match entry(record) {
         Ok(
@@ -84,7 +86,7 @@ fn effect_of_state(alloc: Global, time: u32, old: u16, new: u16) -> Effect
     }
 }
 
-// What a message says, recorded at a time.
+// What a message says, recorded at a time. Only an UPDATE that lists a prefix can fail.
 fn read_recorded_message(
     alloc: Global,
     errors: Errors,
@@ -93,6 +95,7 @@ fn read_recorded_message(
 ) -> Result<Effect, AllocError>
     ensures says { IfOk result (λ effect. effect_value effect ≡ effect_of_message time (message_by errors octets.now)) }
     ensures recorded { IfOk result IsRecorded }
+    ensures refused { OnErr result (ListsPrefix (message_by errors octets.now)) }
 {
     let effect = match read_message_by(alloc, errors, octets) {
         Ok(Message::Open) => Effect::Gives(Pending::none(alloc)),

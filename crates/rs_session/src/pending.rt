@@ -3,11 +3,11 @@
 //! Our choices: of an UPDATE first what is withdrawn, then what is announced; a multicast prefix gives no
 //! change. If an UPDATE is treated as withdrawn, what it announces is withdrawn too (RFC 7606, section 2).
 
-ghost use Rattle.std.specs.Prelude.{◌≡◌, false, [], ◌∷◌, IfOk, IfSome, OnErr};
+ghost use Rattle.std.specs.Prelude.{◌≡◌, ◌+◌, ◌<◌, ◌⊎◌, true, false, [], ◌∷◌, length, IfOk, IfSome, IsSome, OnErr};
 ghost use Rattle.std.specs.Option.{option_map};
 ghost use Rattle.rs_update.specs.Message.{update_content_of};
 ghost use Rattle.rs_change.specs.Change.{GivesFirst, Lost, change_of, is_close};
-ghost use Rattle.rs_session.specs.UpdateChanges.{changes_of_update, changes_of_treated};
+ghost use Rattle.rs_session.specs.UpdateChanges.{announces_next, changes_of_update, changes_of_treated};
 
 use crate::withdrawn::{keep_unicast, keep_withdrawn_only};
 use rs_change::{Body, Word};
@@ -68,7 +68,8 @@ impl Pending {
 
     // The changes of an UPDATE, with the time of its record.
     pub(crate) fn of_update(alloc: Global, time: u32, update: Update) -> Result<Pending, AllocError>
-        ensures { IfOk result (λ changes. changes ≡ changes_of_update time (update_content_of update)) }
+        ensures changes { IfOk result (λ changes. changes ≡ changes_of_update time (update_content_of update)) }
+        ensures refused { OnErr result (IsSome update.attributes ⊎ (0 < length update.withdrawn.items)) }
     {
         let mut withdrawn = update.withdrawn;
         let mut announced = update.nlri;
@@ -91,8 +92,9 @@ impl Pending {
         withdrawn: Vec<Prefix>,
         nlri: Vec<Prefix>,
     ) -> Result<Pending, AllocError>
-        ensures { IfOk result (λ changes. changes
+        ensures changes { IfOk result (λ changes. changes
             ≡ changes_of_treated time (record { withdrawn = withdrawn.items; nlri = nlri.items })) }
+        ensures refused { OnErr result (0 < length withdrawn.items + length nlri.items) }
     {
         let mut treated = withdrawn;
         let mut announced = nlri;
@@ -110,11 +112,12 @@ impl Pending {
 
     /// Gives the next change; none once all were given. It is never a close.
     ///
-    /// Fails if memory is refused: then nothing is given, and the changes are as before.
+    /// Only an announcement can fail, if memory is refused: then nothing is given, and the changes are as before.
     pub fn next(&mut self) -> Result<Option<Word>, AllocError>
         ensures ok { IfOk result (λ given. GivesFirst self.old given self.new) }
         ensures open { IfOk result (λ given. IfSome given (λ word. is_close (change_of word) ≡ false)) }
         ensures err { OnErr result (self.new ≡ self.old) }
+        ensures refused { OnErr result (announces_next self.old ≡ true) }
     {
         if self.lost {
             self.lost = false;
@@ -152,7 +155,8 @@ fn share(
     alloc: Global,
     attributes: Option<Attributes>,
 ) -> Result<Option<Arc<Attributes>>, AllocError>
-    ensures { IfOk result (λ shared. option_map (λ a. a.value) shared ≡ attributes) }
+    ensures value { IfOk result (λ shared. option_map (λ a. a.value) shared ≡ attributes) }
+    ensures refused { OnErr result (IsSome attributes) }
 {
     match attributes {
         None => Ok(None),

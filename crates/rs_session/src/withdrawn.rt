@@ -2,7 +2,7 @@
 //!
 //! Our choices: a prefix that the same UPDATE announces isn't withdrawn, nor is a multicast prefix.
 
-ghost use Rattle.std.specs.Prelude.{◌≡◌, IsSorted, OnOk};
+ghost use Rattle.std.specs.Prelude.{◌≡◌, ◌<◌, length, IsSorted, OnErr, OnOk};
 ghost use Rattle.rs_update.specs.PrefixOrder.{prefix_cmp};
 ghost use Rattle.rs_session.specs.UpdateChanges.{is_listed, unicast, withdrawn_only};
 
@@ -18,7 +18,8 @@ pub(crate) fn keep_withdrawn_only(
     withdrawn: &mut Vec<Prefix>,
     nlri: &[Prefix],
 ) -> Result<(), AllocError>
-    ensures { OnOk result (withdrawn.new.items ≡ withdrawn_only withdrawn.old.items nlri.now) }
+    ensures kept { OnOk result (withdrawn.new.items ≡ withdrawn_only withdrawn.old.items nlri.now) }
+    ensures refused { OnErr result (0 < length withdrawn.old.items) }
 {
     if withdrawn.len().min(nlri.len()) <= FEW {
         keep_unlisted(withdrawn, nlri);
