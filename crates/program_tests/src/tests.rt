@@ -3,6 +3,7 @@
 //! `cases`, command lines and configurations that are refused in `cases_refused`: the built program is run on both.
 
 mod outlet_ahead;
+mod over_octets;
 mod rows;
 mod runs;
 mod runs_ahead;

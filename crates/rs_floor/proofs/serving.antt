@@ -1,3 +1,2 @@
 -- Whole runs over files at hand.
-pub mod FileLemmas
 pub mod AtHandLemmas

@@ -1,17 +1,12 @@
 -- What a run on threads answers for files that are in memory as a whole. Nothing here is from a standard: all of it
 -- is our choice.
-use Rattle.std.specs.Prelude.{◌≡◌, ◌<◌, ℕ, true, false, List, Result, Ok, Err, length, None}
+use Rattle.std.specs.Prelude.{◌≡◌, ◌<◌, ℕ, true, false, List, Result, Ok, Err, length}
 use Rattle.rs_choice.specs.Plan.{Plan}
-use Rattle.rs_mrt.specs.MemoryReading.{MemoryReading}
 use Rattle.rs_ring.specs.Items.{is_capacity}
 use Rattle.rs_serve.specs.Served.{IsServed, ServedContent}
 use Rattle.rs_serve.specs.declared.fault.FloorRefused.{FloorRefused}
 use Rattle.rs_serve.specs.declared.fault.FloorRefused.TheVariants.{Memory, Unsettled, Capacity, Read, Shards}
 use Rattle.rs_update.specs.declared.errors.Errors.{Errors}
-
--- a reader of a whole file; none of its reads fails
-abbrev pub whole_of : List ℕ → MemoryReading
-whole_of file = record { left = file; calls = None; before_failure = None; most = 18446744073709551615; failures = 0 }
 
 -- what a run with one shard answers for files; the number of shards is right, and no read fails
 abbrev pub ServeFilesAnswer : Errors → Plan → List (List ℕ) → ℕ → Result ServedContent FloorRefused → Type 0

@@ -1,18 +1,18 @@
 //! Whole runs on threads by the default standard: with so many shards, with one, and over files at hand.
 
-ghost use Rattle.std.specs.Prelude.{◌≡◌, ◌<◌, ◌^◌, All, IfOk, length, map};
+ghost use Rattle.std.specs.Prelude.{◌≡◌, ◌<◌, ◌^◌, All, length, map};
 ghost use Rattle.std.specs.Prelude.{Err};
-ghost use Rattle.rs_floor.specs.ServeFiles.{ServeFilesAnswer, whole_of};
+ghost use Rattle.rs_floor.specs.ServeFiles.{ServeFilesAnswer};
 ghost use Rattle.rs_serve.specs.ServeAnswer.{ServeAnswer};
 ghost use Rattle.rs_serve.specs.declared.fault.FloorRefused.TheVariants.{Shards};
 ghost use Rattle.rs_session.specs.FileChanges.{default_standard};
 
 use rs_choice::Exchange;
-use rs_mrt::{MemoryReader, Read, ReadLimits};
-use rs_serve::{FloorRefused, Served, has_room, serve_by};
+use rs_mrt::Read;
+use rs_serve::{FloorRefused, Served, has_room, readers_of, serve_by};
 use rs_update::Errors;
 use rs_worker::Gate;
-use std::alloc::{AllocError, Global};
+use std::alloc::Global;
 use std::sync::{Arc, Wait};
 use std::thread::Threads;
 
@@ -80,16 +80,4 @@ pub fn serve<T: Threads + Wait + Sync, G: Gate>(
     }
     let readers = readers_of(alloc, files)?;
     serve_readers(rt, alloc, plan, readers, capacity, gate)
-}
-
-// A reader of each file, of which no read fails.
-fn readers_of<'a>(alloc: Global, files: &[&'a [u8]]) -> Result<Vec<MemoryReader<'a>>, AllocError>
-    ensures count { IfOk result (λ readers. length readers.items ≡ length files.now) }
-    ensures fresh { IfOk result (λ readers. All (λ reader. reader.failures ≡ 0) readers.items) }
-    ensures files { IfOk result (λ readers. readers.items ≡ map (λ file. whole_of file.now) files.now) }
-{
-    files
-        .iter()
-        .map(|file| MemoryReader::new(*file, ReadLimits::none()))
-        .collect(alloc)
 }

@@ -1,3 +1,4 @@
 pub mod EndLemmas
 pub mod RunLemmas
 mod RefusalLemmas
+mod OctetLemmas

@@ -8,10 +8,18 @@ use Rattle.rs_outlet.specs.declared.run_fault.RunFault.{RunFault}
 use Rattle.rs_outlet.specs.declared.run_fault.RunFault.TheVariants.{Memory, Unsettled, Dump, Report, Read}
 use Rattle.rs_update.specs.declared.errors.Errors.{Errors}
 use Rattle.rs_run.specs.Recorded.{FailsAt, OverFiles, tables_of_files}
+use Rattle.rs_run.specs.Report.{report_of_files}
+use Rattle.rs_run.specs.declared.over_octets.RunOverOctets.{RunOverOctets}
 
 -- the dumps of the tables that the files leave
 abbrev pub dumps_of_files : Errors → Plan → List (List ℕ) → ℕ → List KeptDump
 dumps_of_files errors plan files time = dumps_of (tables_of_files errors plan files) time
+
+-- the run has kept the dumps of these files, and its report is that of these files
+pub record HasDumpsAndReportOf (errors : Errors) (plan : Plan) (time : ℕ) (files : List (List ℕ))
+    (ran : RunOverOctets) : Type 0 where
+  pub dumps : ran.dumps.kept ≡ dumps_of_files errors plan files time
+  pub report : ran.report.items ≡ report_of_files errors plan files
 
 -- why the reading of sessions ends early: memory was refused, a read failed, or a peer is unsettled
 abbrev pub IsReadStop : {R : Type 0} → (R → List ℕ → ReadEnd → Type 0) → Errors → Plan → List R → RunFault → Type 0

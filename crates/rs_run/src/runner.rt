@@ -206,13 +206,13 @@ fn serve_files<T: Threads + Wait + Sync, R: Read + Send + Drop>(
         &Open,
     ) {
         Ok(served) => Ok(served),
-        Err(refused) => Err(read_fault(refused)),
+        Err(refused) => Err(fault_of(refused)),
     }
 }
 
 // Why a run fails whose sessions can't be read. The capacity of the rings and the number of shards are never the
 // reason.
-fn read_fault(refused: FloorRefused) -> RunFault
+fn fault_of(refused: FloorRefused) -> RunFault
     requires { IsReadRefusal refused }
     ensures { IsFaultOf refused result }
 {

@@ -5,3 +5,5 @@ mod MergingLemmas
 mod RunLemmas
 pub mod TakingLemmas
 pub mod ListLemmas
+mod FileLemmas
+pub mod AtHandLemmas

@@ -31,8 +31,8 @@ pub record IsLine {R : Type 0} (gives : R → List ℕ → ReadEnd → Type 0) (
   pub ready : IsReadyJob job
   pub unreceived : receiver.received ≡ []
 
--- one more line was opened
-pub record HasLineMore {R : Type 0} (gives : R → List ℕ → ReadEnd → Type 0) (peer : Peer) (reader : R)
+-- one more line was opened, with room for so many changes
+pub record HasLineMore {R : Type 0} (gives : R → List ℕ → ReadEnd → Type 0) (capacity : ℕ) (peer : Peer) (reader : R)
     (jobs_before : List (Job (RecordReading R))) (receivers_before : List (Receiving Word))
     (jobs : List (Job (RecordReading R))) (receivers : List (Receiving Word)) : Type 0 where
   pub job : Job (RecordReading R)
@@ -40,12 +40,17 @@ pub record HasLineMore {R : Type 0} (gives : R → List ℕ → ReadEnd → Type
   pub jobs_are : jobs ≡ jobs_before ++ job ∷ []
   pub receivers_are : receivers ≡ receivers_before ++ receiver ∷ []
   pub line : IsLine gives peer reader job receiver
+  pub room : job.out.capacity ≡ capacity
 
 -- all workers can begin: the receiving end of each ring is here, and nothing was received through it
 pub record CanWork {R : Type 0} (jobs : List (Job (RecordReading R))) (receivers : List (Receiving Word)) : Type 0 where
   pub rings : map (λ job. job.out.ring) jobs ≡ map (λ receiver. receiver.ring) receivers
   pub ready : All IsReadyJob jobs
   pub unreceived : All (λ receiver. receiver.received ≡ []) receivers
+
+-- each ring through which workers send has room for so many changes
+abbrev pub HaveRoom : {R : Type 0} → ℕ → List (Job (RecordReading R)) → Type 0
+HaveRoom capacity jobs = All (λ job. job.out.capacity ≡ capacity) jobs
 
 -- each worker's job is that of one peer of the plan
 pub record AreLines {R : Type 0} (gives : R → List ℕ → ReadEnd → Type 0) (plan : Plan) (readers : List R)
@@ -65,14 +70,15 @@ pub record IsRing (plan : Plan) (job : ShardJob) (sender : Sending Routed) : Typ
   pub unsent : sender.sent ≡ []
   pub ready : IsReady job
 
--- one more ring was opened
-pub record HasRingMore (plan : Plan) (jobs_before : List ShardJob) (senders_before : List (Sending Routed))
+-- one more ring was opened, with room for so many items
+pub record HasRingMore (capacity : ℕ) (plan : Plan) (jobs_before : List ShardJob) (senders_before : List (Sending Routed))
     (jobs : List ShardJob) (senders : List (Sending Routed)) : Type 0 where
   pub job : ShardJob
   pub sender : Sending Routed
   pub jobs_are : jobs ≡ jobs_before ++ job ∷ []
   pub senders_are : senders ≡ senders_before ++ sender ∷ []
   pub ring : IsRing plan job sender
+  pub room : sender.capacity ≡ capacity
 
 -- all shards can begin: the sending end of each ring is here, and nothing was sent through it
 pub record CanShare (jobs : List ShardJob) (senders : List (Sending Routed)) : Type 0 where
@@ -80,6 +86,10 @@ pub record CanShare (jobs : List ShardJob) (senders : List (Sending Routed)) : T
   pub rings : map (λ job. job.from.ring) jobs ≡ map (λ sender. sender.ring) senders
   pub unsent : All (λ sender. sender.sent ≡ []) senders
   pub ready : All IsReady jobs
+
+-- each ring to a shard has room for so many items
+abbrev pub RingsHaveRoom : ℕ → List (Sending Routed) → Type 0
+RingsHaveRoom capacity senders = All (λ sender. sender.capacity ≡ capacity) senders
 
 -- each shard begins with tables of the plan
 pub record AreRings (plan : Plan) (jobs : List ShardJob) (senders : List (Sending Routed)) : Type 0 where

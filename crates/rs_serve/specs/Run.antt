@@ -1,5 +1,6 @@
 -- What a run on threads leaves, once all its threads were joined.
-use Rattle.std.specs.Prelude.{◌≡◌, ◌<◌, ⊤, ℕ, Bool, true, false, List, All, AllPairs, map, length}
+use Rattle.std.specs.Prelude.{◌≡◌, ◌<◌, ◌||◌, ◌⊎◌, ℕ, Bool, true, false, not, List, All, AllPairs, Result, map, length}
+use Rattle.std.specs.List.{list_any}
 use Rattle.rs_mrt.specs.Reader.{ReadEnd}
 use Rattle.rs_mrt.specs.RecordReading.{RecordReading, MayCome}
 use Rattle.rs_ring.specs.Ends.{Receiving}
@@ -14,7 +15,7 @@ use Rattle.rs_table.specs.Merge.{AreParts, IsMerged}
 use Rattle.rs_worker.specs.Crew.{AllJoined, Charge}
 use Rattle.rs_worker.specs.Worked.{is_memory}
 use Rattle.rs_worker.specs.declared.crew.Joined.{Joined}
-use Rattle.rs_serve.specs.Outcome.{IsLeastPlace}
+use Rattle.rs_serve.specs.Outcome.{IsLeastPlace, IsVerdict}
 use Rattle.rs_serve.specs.Served.{ServedContent}
 use Rattle.rs_serve.specs.declared.ended.PeerEnd.{PeerEnd}
 use Rattle.rs_serve.specs.declared.fault.FloorRefused.{FloorRefused}
@@ -74,9 +75,19 @@ pub record IsFirstUnsettled (ends : List Joined) (whole : Bool) (peer : ℕ) : T
   pub read : All (λ end. is_read end.reason ≡ false) ends
   pub least : IsLeastPlace false true (map (λ end. end.settled) ends) peer
 
--- why a run is refused after its threads were joined
+-- memory was refused: to a worker, or else to a shard, whose tables are missing
+abbrev pub is_out_of_memory : List Joined → Bool → Bool
+is_out_of_memory ends whole = list_any (λ end. is_memory end.reason) ends || not whole
+
+-- the verdict on what is known of all workers and shards
+abbrev pub IsVerdictOn : List Joined → Bool → Result (Unit {0}) FloorRefused → Type 0
+IsVerdictOn ends whole result =
+    IsVerdict (is_out_of_memory ends whole) (map (λ end. is_read end.reason) ends) (map (λ end. end.settled) ends) result
+
+-- Why a run is refused after its threads were joined. Memory was refused to a thread. Or all threads are well, and
+-- memory was refused to the answer.
 abbrev pub IsRefusal : List Joined → Bool → FloorRefused → Type 0
-IsRefusal ends whole Memory = ⊤
+IsRefusal ends whole Memory = (is_out_of_memory ends whole ≡ true) ⊎ ((whole ≡ true) × All IsWell ends)
 IsRefusal ends whole (Read peer) = IsFirstRead ends whole peer
 IsRefusal ends whole (Unsettled peer) = IsFirstUnsettled ends whole peer
 IsRefusal ends whole Capacity = ⊥

@@ -4,16 +4,19 @@
 //! joined.
 
 ghost use Rattle.std.specs.Prelude.{◌≡◌, ◌<◌, ◌≤◌, true, [], All, IfOk, IfSome, IsTrue, length, map, vec_len};
-ghost use Rattle.std.specs.Prelude.{vec_capacity};
+ghost use Rattle.std.specs.Prelude.{take, vec_capacity};
 ghost use mathlib.Core.List.{IsPrefix};
 ghost use Rattle.rs_ring.specs.Items.{is_capacity};
 ghost use Rattle.std.proofs.Props.{props};
 ghost use Rattle.std.specs.Coded.{codes};
+ghost use Rattle.rs_router.specs.Delivery.{sent_lists};
+ghost use Rattle.rs_router.specs.Routing.{EndLast};
 ghost use Rattle.rs_router.specs.ShardParts.{IsShardCount};
 ghost use Rattle.rs_table.specs.Codes.{rib_code};
 ghost use Rattle.rs_serve.specs.Crew as of_shards;
 ghost use Rattle.rs_worker.specs.Crew.{charge_of, charged};
-ghost use Rattle.rs_serve.specs.Lines.{AreLines, AreRings, CanShare, CanWork, IsReadyJob};
+ghost use Rattle.rs_serve.specs.Lines.{AreLines, AreRings, CanShare, CanWork, HaveRoom, IsReadyJob};
+ghost use Rattle.rs_serve.specs.Lines.{RingsHaveRoom};
 ghost use Rattle.rs_serve.specs.Run.{HasRun};
 
 use crate::lines::{Lines, open_lines};
@@ -94,7 +97,8 @@ impl<R: Read + Drop> Room<R> {
 }
 
 impl<R: Read + Drop> Crew<R> {
-    // Takes all memory that a run needs before its first thread starts. It fails if memory is refused.
+    // Takes all memory that a run needs before its first thread starts: rings of this capacity, one for each peer, and
+    // one for each of so many shards. It fails if memory is refused.
     pub(crate) fn new(
         alloc: Global,
         plan: &Arc<Exchange>,
@@ -109,6 +113,9 @@ impl<R: Read + Drop> Crew<R> {
         ensures lines { IfOk result (λ crew.
             AreLines R.gives plan.now.value readers.items crew.lines.jobs.items crew.lines.from.items) }
         ensures rings { IfOk result (λ crew. AreRings plan.now.value crew.rings.jobs.items crew.rings.to.items) }
+        ensures count { IfOk result (λ crew. length crew.rings.jobs.items ≡ shards) }
+        ensures room { IfOk result (λ crew. HaveRoom capacity crew.lines.jobs.items
+            × RingsHaveRoom capacity crew.rings.to.items) }
     {
         let room = Room::new(alloc, plan.count(), shards)?;
         let lines = open_lines(alloc, plan, readers, capacity)?;
@@ -157,6 +164,8 @@ fn run_in<'s, E, T: Threads + Wait + Sync, R: Read + Send + Drop + 's, G: Gate>(
         to,
     } = rings;
     let mut room = room;
+    let mut from = from;
+    let mut to = to;
     if !start(
         scope,
         rt,
@@ -168,7 +177,7 @@ fn run_in<'s, E, T: Threads + Wait + Sync, R: Read + Send + Drop + 's, G: Gate>(
         &mut room.workers,
         &mut room.shards,
     ) {
-        give_up(rt, room, from, to);
+        give_up(rt, room, &mut from, &mut to);
         return None;
     }
     Some(join_all(rt, room, from, to))
@@ -242,27 +251,27 @@ fn join_all<T: Threads + Wait, R: Read>(
     Ran { ends, parts, whole }
 }
 
-// Drains the rings of the threads that were started, and joins them.
+// Drains the rings of the workers that were started, sends the last item to each shard that was, and joins them.
 fn give_up<T: Threads + Wait, R: Read>(
     rt: &T,
     room: Room<R>,
-    from: Vec<Receiver<Word>>,
-    to: Vec<Sender<Routed>>,
+    from: &mut [Receiver<Word>],
+    to: &mut [Sender<Routed>],
 )
-    requires workers { length room.workers.items ≤ length from.items }
-    requires shards { length room.shards.items ≤ length to.items }
+    requires workers { length room.workers.items ≤ length from.old }
+    requires shards { length room.shards.items ≤ length to.old }
     requires few_peers { length room.workers.items ≤ 256 }
     requires few_shards { length room.shards.items ≤ 16 }
-    requires unreceived { All (λ receiver. receiver.received ≡ []) from.items }
-    requires unsent { All (λ sender. sender.sent ≡ []) to.items }
+    requires unreceived { All (λ receiver. receiver.received ≡ []) from.old }
+    requires unsent { All (λ sender. sender.sent ≡ []) to.old }
+    // A shard that were not sent the last item would never end.
+    ensures last { EndLast (take (length room.shards.items) (sent_lists to.new)) }
 {
     let Room {
         workers,
         shards,
         ..
     } = room;
-    let mut from = from;
-    let mut to = to;
     if !shards.is_empty() {
         route(rt, &mut from[..workers.len()], &mut to[..shards.len()]);
     }

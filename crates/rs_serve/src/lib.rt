@@ -6,11 +6,12 @@
 //!
 //! Reading order, the shards: `part_laws` (what the part of a list leaves), `taking` (what one item makes of the
 //! tables), `shard` (all items), `shard_crew` (all shards), `laws` (what their tables come to). Before a run:
-//! `identity` (who a peer is), `capacity` (of rings), `lines` and `rings` (what each thread takes). Then its threads:
-//! `crew` (their start and join). Then its end: `outcome` (how a run ended), `ended` and `served` (what it leaves).
-//! Last `serving` (a whole run) and `fault` (why a run is refused).
+//! `identity` (who a peer is), `at_hand` (readers of files), `capacity` (of rings), `lines` and `rings` (what each
+//! thread takes). Then its threads: `crew` (their start and join). Then its end: `outcome` (how a run ended), `ended`
+//! and `served` (what it leaves). Last `serving` (a whole run) and `fault` (why a run is refused).
 #![tactic(auto)]
 
+mod at_hand;
 mod capacity;
 mod crew;
 mod ended;
@@ -27,6 +28,7 @@ mod shard;
 mod shard_crew;
 mod taking;
 
+pub use at_hand::readers_of;
 pub use capacity::has_room;
 pub use ended::PeerEnd;
 pub use fault::FloorRefused;

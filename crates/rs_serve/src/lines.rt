@@ -3,7 +3,7 @@
 ghost use Rattle.std.specs.Prelude.{◌≡◌, ◌<◌, true, All, IfOk, OnOk, length};
 ghost use Rattle.rs_ring.specs.Items.{is_capacity};
 ghost use Rattle.rs_choice.specs.Plan.{peer_of};
-ghost use Rattle.rs_serve.specs.Lines.{AreLines, HasLineMore};
+ghost use Rattle.rs_serve.specs.Lines.{AreLines, HasLineMore, HaveRoom};
 
 use crate::identity::peer_id;
 use rs_choice::{Exchange, PeerSpec};
@@ -20,7 +20,7 @@ pub(crate) struct Lines<R: Read> {
     pub(crate) from: Vec<Receiver<Word>>,
 }
 
-// The rings of all peers. Refused if memory is.
+// The rings of all peers, each with room for so many changes. Refused if memory is.
 pub(crate) fn open_lines<R: Read + Drop>(
     alloc: Global,
     plan: &Exchange,
@@ -30,7 +30,8 @@ pub(crate) fn open_lines<R: Read + Drop>(
     requires as_many { length readers.items ≡ length plan.now.peers }
     requires failures { All (λ reader. R.failures reader < u64.MAX) readers.items }
     requires capacity { is_capacity capacity ≡ true }
-    ensures { IfOk result (λ lines. AreLines R.gives plan.now readers.items lines.jobs.items lines.from.items) }
+    ensures lines { IfOk result (λ lines. AreLines R.gives plan.now readers.items lines.jobs.items lines.from.items) }
+    ensures room { IfOk result (λ lines. HaveRoom capacity lines.jobs.items) }
 {
     let mut lines = Lines {
         jobs: Vec::new(alloc),
@@ -54,7 +55,7 @@ impl<R: Read + Drop> Lines<R> {
     ) -> Result<(), AllocError>
         requires failures { R.failures reader < u64.MAX }
         requires capacity { is_capacity capacity ≡ true }
-        ensures { OnOk result (HasLineMore R.gives (peer_of peer.now) reader
+        ensures { OnOk result (HasLineMore R.gives capacity (peer_of peer.now) reader
             self.old.jobs.items self.old.from.items self.new.jobs.items self.new.from.items) }
     {
         a_reader_gives_a_file_or_fails(&reader);

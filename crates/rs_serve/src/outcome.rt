@@ -1,7 +1,7 @@
 //! How a run of which all threads were joined ended.
 
-ghost use Rattle.std.specs.Prelude.{◌≡◌, true, false, All, IfNone, IfSome};
-ghost use Rattle.rs_serve.specs.Outcome.{IsLeastPlace, IsVerdict};
+ghost use Rattle.std.specs.Prelude.{Bool, List, true, false};
+ghost use Rattle.rs_serve.specs.Outcome.{IsFirst, IsVerdict};
 
 use crate::fault::FloorRefused;
 
@@ -14,13 +14,25 @@ use crate::fault::FloorRefused;
 pub fn verdict(memory: bool, failed: &[bool], settled: &[bool]) -> Result<(), FloorRefused>
     ensures { IsVerdict memory failed.now settled.now result }
 {
+    verdict_by(memory, first_that_is(failed), first_that_is_not(settled))
+}
+
+// The same, by the least peer whose read failed and the least one that isn't settled.
+pub(crate) fn verdict_by(
+    memory: bool,
+    failed: Option<usize>,
+    unsettled: Option<usize>,
+) -> Result<(), FloorRefused>
+    ensures { (reads settles : List Bool) → IsFirst true false reads failed → IsFirst false true settles unsettled
+        → IsVerdict memory reads settles result }
+{
     if memory {
         return Err(FloorRefused::Memory);
     }
-    if let Some(peer) = first_that_is(failed) {
+    if let Some(peer) = failed {
         return Err(FloorRefused::Read(peer));
     }
-    if let Some(peer) = first_that_is_not(settled) {
+    if let Some(peer) = unsettled {
         return Err(FloorRefused::Unsettled(peer));
     }
     Ok(())
@@ -28,16 +40,14 @@ pub fn verdict(memory: bool, failed: &[bool], settled: &[bool]) -> Result<(), Fl
 
 // The least place that is true.
 fn first_that_is(values: &[bool]) -> Option<usize>
-    ensures some { IfSome result (IsLeastPlace true false values.now) }
-    ensures none { IfNone result (All (λ value. value ≡ false) values.now) }
+    ensures { IsFirst true false values.now result }
 {
     values.iter().position(|value| *value)
 }
 
 // The least place that is false.
 fn first_that_is_not(values: &[bool]) -> Option<usize>
-    ensures some { IfSome result (IsLeastPlace false true values.now) }
-    ensures none { IfNone result (All (λ value. value ≡ true) values.now) }
+    ensures { IsFirst false true values.now result }
 {
     values.iter().position(|value| !*value)
 }

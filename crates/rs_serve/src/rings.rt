@@ -3,7 +3,7 @@
 ghost use Rattle.std.specs.Prelude.{◌≡◌, ◌<◌, true, IfOk, OnOk, length};
 ghost use Rattle.rs_ring.specs.Items.{is_capacity};
 ghost use Rattle.rs_router.specs.ShardParts.{IsShardCount};
-ghost use Rattle.rs_serve.specs.Lines.{AreRings, HasRingMore};
+ghost use Rattle.rs_serve.specs.Lines.{AreRings, HasRingMore, RingsHaveRoom};
 
 use crate::shard_crew::ShardJob;
 use rs_choice::Exchange;
@@ -20,7 +20,7 @@ pub(crate) struct Rings {
     pub(crate) to: Vec<Sender<Routed>>,
 }
 
-// The rings of all shards, and what each one gathers changes in. Refused if memory is.
+// The rings of all shards, each with room for so many items, and what each one gathers changes in. Refused if memory is.
 pub(crate) fn open_rings(
     alloc: Global,
     plan: &Arc<Exchange>,
@@ -31,6 +31,7 @@ pub(crate) fn open_rings(
     requires shards { IsShardCount shards }
     ensures rings { IfOk result (λ rings. AreRings plan.now.value rings.jobs.items rings.to.items) }
     ensures count { IfOk result (λ rings. length rings.jobs.items ≡ shards) }
+    ensures room { IfOk result (λ rings. RingsHaveRoom capacity rings.to.items) }
 {
     let mut rings = Rings {
         jobs: Vec::new(alloc),
@@ -52,7 +53,7 @@ impl Rings {
         capacity: usize,
     ) -> Result<(), AllocError>
         requires { is_capacity capacity ≡ true }
-        ensures { OnOk result (HasRingMore plan.now.value
+        ensures { OnOk result (HasRingMore capacity plan.now.value
             self.old.jobs.items self.old.to.items self.new.jobs.items self.new.to.items) }
     {
         let tables = Gathering::of_plan(alloc, plan.clone()?, FEW_ENTRIES)?;

@@ -1,10 +1,12 @@
 //! A run on threads: one for each peer's recorded session, and one for each shard of the tables.
 
 ghost use Rattle.std.specs.List.{list_any};
-ghost use Rattle.std.specs.Prelude.{◌≡◌, ◌<◌, ◌||◌, not, All, IfErr, IfOk, IsTrue, OnOk, length, map, true};
+ghost use Rattle.std.specs.Prelude.{◌≡◌, ◌<◌, All, IfErr, IfOk, IsTrue, length, map, true, false};
 ghost use Rattle.rs_session.specs.Change.{is_read};
 ghost use Rattle.rs_worker.specs.Worked as spec;
-ghost use Rattle.rs_serve.specs.Run.{CanMerge, IsAnswer, IsRefusal, IsWell, end_of};
+ghost use Rattle.rs_serve.specs.Run.{CanMerge, IsAnswer, IsRefusal, IsVerdictOn, end_of};
+ghost use Rattle.rs_serve.specs.Run.{is_out_of_memory};
+ghost use Rattle.rs_serve.specs.Outcome.{IsFirst};
 ghost use Rattle.rs_router.specs.ShardParts.{IsShardCount};
 ghost use Rattle.rs_serve.specs.ServeAnswer.{ServeAnswer};
 ghost use Rattle.rs_serve.specs.Served.{is_shard_count};
@@ -14,7 +16,7 @@ use crate::crew::{Crew, Ran, run};
 use crate::ended::PeerEnd;
 use crate::fault::FloorRefused;
 use crate::laws::{run_shards_are_whole, shards_merge};
-use crate::outcome::verdict;
+use crate::outcome::verdict_by;
 use crate::served::Served;
 use rs_choice::Exchange;
 use rs_mrt::Read;
@@ -86,7 +88,7 @@ fn settle(alloc: Global, ran: Ran) -> Result<Served, FloorRefused>
     ensures refused { IfErr result (IsRefusal ran.ends.items ran.whole) }
 {
     let Ran { ends, parts, whole } = ran;
-    judge(alloc, &ends, whole)?;
+    judge(&ends, whole)?;
     let ends = peer_ends(alloc, &ends)?;
     let tables = Tables::merge(parts)?;
     // It tells that the tables have what each peer of the plan has left.
@@ -94,20 +96,20 @@ fn settle(alloc: Global, ran: Ran) -> Result<Served, FloorRefused>
     Ok(Served::new(tables, ends))
 }
 
-// Whether all is well with a run of which all threads were joined, or why not.
-fn judge(alloc: Global, ends: &[Joined], whole: bool) -> Result<(), FloorRefused>
-    ensures well { OnOk result ((whole ≡ true) × All IsWell ends.now) }
-    ensures refused { IfErr result (IsRefusal ends.now whole) }
+// Whether all is well with a run of which all threads were joined, or why not. It takes no memory.
+fn judge(ends: &[Joined], whole: bool) -> Result<(), FloorRefused>
+    ensures { IsVerdictOn ends.now whole result }
 {
-    let memory = is_refused_memory(ends, whole);
-    let failed = failed_reads(alloc, ends)?;
-    let settled = settled_peers(alloc, ends)?;
-    verdict(memory, &failed, &settled)
+    verdict_by(
+        is_refused_memory(ends, whole),
+        first_failed(ends),
+        first_unsettled(ends),
+    )
 }
 
 // Whether a worker was refused memory, or the tables of a shard are missing.
 fn is_refused_memory(ends: &[Joined], whole: bool) -> bool
-    ensures { result ≡ (list_any (λ end. spec.is_memory end.reason) ends.now || not whole) }
+    ensures { result ≡ is_out_of_memory ends.now whole }
 {
     is_any_refused(ends) || !whole
 }
@@ -119,20 +121,18 @@ fn is_any_refused(ends: &[Joined]) -> bool
     ends.iter().any(|end| is_memory(end.reason))
 }
 
-// Of each peer whether a read failed.
-fn failed_reads(alloc: Global, ends: &[Joined]) -> Result<Vec<bool>, AllocError>
-    ensures { IfOk result (λ failed. failed.items ≡ map (λ end. is_read end.reason) ends.now) }
+// The least peer with a failed read.
+fn first_failed(ends: &[Joined]) -> Option<usize>
+    ensures { IsFirst true false (map (λ end. is_read end.reason) ends.now) result }
 {
-    ends.iter()
-        .map(|end| is_failed_read(end.reason))
-        .collect(alloc)
+    ends.iter().position(|end| is_failed_read(end.reason))
 }
 
-// Of each peer whether all that was sent is known to have been received.
-fn settled_peers(alloc: Global, ends: &[Joined]) -> Result<Vec<bool>, AllocError>
-    ensures { IfOk result (λ settled. settled.items ≡ map (λ end. end.settled) ends.now) }
+// The least peer of which perhaps not all that was sent was received.
+fn first_unsettled(ends: &[Joined]) -> Option<usize>
+    ensures { IsFirst false true (map (λ end. end.settled) ends.now) result }
 {
-    ends.iter().map(|end| end.settled).collect(alloc)
+    ends.iter().position(|end| !end.settled)
 }
 
 // How the session of each peer ended.

@@ -1,6 +1,6 @@
 //! The dumps of a run: the same octets with any number of shards, and those of a schedule.
 
-use super::exchanges::{Peer, run, schedule, turns_by_peer};
+use super::exchanges::{Peer, run, schedule, turns_by_peer, two_peers};
 use super::many::busy_peers;
 use super::rows::peers_of;
 use rs_dump::write_dump;
@@ -68,4 +68,17 @@ fn any_number_of_shards_gives_the_same_dumps(rt: HostRuntime) {
     let line = "64501/11:collected 64502/12:nothing 64503/13:longer 64504/14:nothing";
     let collected = peers_of(rt.alloc(), line).expect(&rt, "peers");
     check_dumps(&rt, rt.alloc(), &collected);
+}
+
+// Of 4,999 prefixes each of two clients has a dump: the one that announced them an empty one.
+#[test]
+fn any_number_of_shards_gives_the_same_dumps_of_many_prefixes(rt: HostRuntime) {
+    let peers = two_peers(rt.alloc(), 4_999).expect(&rt, "peers");
+    let wanted = dumps_with(&rt, rt.alloc(), &peers, 1).expect(&rt, "dumps");
+    assert_eq!(rt; wanted.len(), 2);
+    assert!(rt; wanted[0].len() < 100 && wanted[1].len() > 4_999 * 50);
+    for shards in [3, 16] {
+        let found = dumps_with(&rt, rt.alloc(), &peers, shards).expect(&rt, "dumps");
+        assert!(rt; found == wanted, "with {shards} shards");
+    }
 }

@@ -143,14 +143,15 @@ pub fn add_withdrawal(file: &mut Vec<u8>, recorded: &Recorded) -> Result<(), All
     )
 }
 
-/// A peer of this place that announces so many prefixes at times from 0: 10.0.0.0/24, 11.0.1.0/24, 10.0.2.0/24, and so
-/// on.
+/// A peer of this place that announces so many prefixes at times from 0. That of place 0 announces 10.0.0.0/24,
+/// 11.0.1.0/24, 10.0.2.0/24, and so on. That of place 1 has 12 and 13 in place of 10 and 11, and so on.
 pub fn announcer(alloc: Global, place: u32, count: u32) -> Option<Peer> {
     let asn = place.wrapping_add(64501);
+    let [.., even] = place.wrapping_mul(2).wrapping_add(10).to_be_bytes();
     let mut peer = Peer::new(alloc, asn, address_of(place));
     for time in 0..count {
         let [_, _, high, low] = time.to_be_bytes();
-        let prefix = [10u8.wrapping_add(low % 2), high, low];
+        let prefix = [even.wrapping_add(low % 2), high, low];
         let recorded = Recorded {
             place,
             asn,
@@ -164,9 +165,14 @@ pub fn announcer(alloc: Global, place: u32, count: u32) -> Option<Peer> {
 
 /// Two peers, the first of which announces so many prefixes.
 pub fn two_peers(alloc: Global, count: u32) -> Option<Vec<Peer>> {
+    two_announcers(alloc, count, 0)
+}
+
+/// Two peers, of which the first announces so many prefixes, and the second so many others.
+pub fn two_announcers(alloc: Global, first: u32, second: u32) -> Option<Vec<Peer>> {
     let mut peers = Vec::new(alloc);
-    peers.push(announcer(alloc, 0, count)?).ok()?;
-    peers.push(announcer(alloc, 1, 0)?).ok()?;
+    peers.push(announcer(alloc, 0, first)?).ok()?;
+    peers.push(announcer(alloc, 1, second)?).ok()?;
     Some(peers)
 }
 

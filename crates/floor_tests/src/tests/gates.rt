@@ -1,6 +1,6 @@
 //! Runs whose threads a test watches, or makes wait, at their gates.
 
-use super::exchanges::{run, two_peers};
+use super::exchanges::{run, two_announcers};
 use rs_floor::Gate;
 use std::alloc::Global;
 use std::process::Abort;
@@ -79,35 +79,75 @@ impl Gate for Crossing {
     }
 }
 
-// How many rows the second of two peers has after a run in which the first announces so many prefixes, through rings of
-// one change.
+// How many rows each of two peers has after a run in which they announce so many prefixes, each prefixes of its own,
+// through rings of one change.
 fn count_rows<R: Threads + Wait + Sync + Abort, G: Gate>(
     rt: &R,
     alloc: Global,
-    count: u32,
+    (first, second): (u32, u32),
     shards: usize,
     gate: &G,
-) -> Option<usize> {
-    let peers = two_peers(alloc, count)?;
+) -> Option<(usize, usize)> {
+    let peers = two_announcers(alloc, first, second)?;
     let served = run(rt, alloc, &peers, 1, shards, gate).ok()?;
-    Some(served.tables().rows(1).ok()?.len())
+    let tables = served.tables();
+    if tables.count() != 2 {
+        return None;
+    }
+    Some((tables.rows(0).ok()?.len(), tables.rows(1).ok()?.len()))
 }
 
-// Each change passes once and in order: a hundred and the close of the first worker, and the close of the second.
+// Each change of both workers passes once and in order, the closes too.
 #[test]
 fn two_workers_run_at_once(rt: HostRuntime) {
-    let gate = Crossing::new(false);
-    let rows = count_rows(&rt, rt.alloc(), 100, 1, &gate);
-    assert_eq!(rt; (rows, gate.seen()), (Some(100), (101, 1, 0, false)));
+    for (first, second) in [(1, 0), (100, 0), (100, 70)] {
+        let gate = Crossing::new(false);
+        let rows = count_rows(&rt, rt.alloc(), (first, second), 1, &gate);
+        let passed = (u64::from(first) + 1, u64::from(second) + 1, 0, false);
+        let wanted = Some((second as usize, first as usize));
+        assert_eq!(rt; (rows, gate.seen()), (wanted, passed));
+    }
 }
 
 // Each item passes once and in order: half of the prefixes are in shard 0 and half in shard 1, and each has two closes
 // and the last item besides.
 #[test]
 fn two_shards_run_at_once(rt: HostRuntime) {
-    let gate = Crossing::new(true);
-    let rows = count_rows(&rt, rt.alloc(), 100, 2, &gate);
-    assert_eq!(rt; (rows, gate.seen()), (Some(100), (53, 53, 0, false)));
+    for (first, second) in [(2, 0), (100, 0), (100, 70)] {
+        let gate = Crossing::new(true);
+        let rows = count_rows(&rt, rt.alloc(), (first, second), 2, &gate);
+        let half = u64::from((first + second) / 2) + 3;
+        let wanted = Some((second as usize, first as usize));
+        assert_eq!(rt; (rows, gate.seen()), (wanted, (half, half, 0, false)));
+    }
+}
+
+// A gate that counts the first items of shards.
+#[derive(Drop)]
+struct FirstItems {
+    passed: AtomicU64,
+}
+
+impl Gate for FirstItems {
+    fn pass(&self, _peer: usize, _number: u64) {}
+
+    fn shard_pass(&self, _shard: usize, number: u64) {
+        if number == 0 {
+            self.passed.fetch_add(1, Ordering::SeqCst);
+        }
+    }
+}
+
+#[test]
+fn as_many_shards_run_as_are_asked_for(rt: HostRuntime) {
+    for shards in [1, 2, 3, 16] {
+        let gate = FirstItems {
+            passed: AtomicU64::new(0),
+        };
+        let rows = count_rows(&rt, rt.alloc(), (10, 0), shards, &gate);
+        let passed = gate.passed.load(Ordering::SeqCst);
+        assert_eq!(rt; (rows, passed), (Some((0, 10)), shards as u64));
+    }
 }
 
 // A gate that holds the first item of the shard, and sees whether a worker goes on too far meanwhile.
@@ -141,9 +181,9 @@ fn a_shard_that_is_held_holds_the_worker(rt: HostRuntime) {
         holds: AtomicBool::new(true),
         too_far: AtomicBool::new(false),
     };
-    let rows = count_rows(&rt, rt.alloc(), 4_999, 1, &gate);
+    let rows = count_rows(&rt, rt.alloc(), (4_999, 0), 1, &gate);
     assert_eq!(rt;
         (rows, gate.too_far.load(Ordering::SeqCst)),
-        (Some(4_999), false)
+        (Some((0, 4_999)), false)
     );
 }

@@ -197,8 +197,8 @@ fn run_in<T: AllocGlobal + Threads + Wait + Sync>(rt: &T, manner: &Manner) -> Re
     })
 }
 
-// Whether a dump is kept under this name, with the octets that are spelled so.
-fn is_dump(alloc: Global, dump: &Kept, name: &str, expected: &str) -> bool {
+/// Whether a dump is kept under this name, with the octets that are spelled so.
+pub fn is_dump(alloc: Global, dump: &Kept, name: &str, expected: &str) -> bool {
     match octets(alloc, &[expected]) {
         Ok(expected) => dump.name.as_str() == name && dump.octets == expected,
         Err(_) => false,

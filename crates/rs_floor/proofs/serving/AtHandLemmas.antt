@@ -2,50 +2,32 @@
 use Rattle.std.proofs.Common.{◌≡◌, ◌∙◌, sym, ap, subst, ℕ, ◌<◌, ◌^◌, ◌⊎◌, arith, inl, inr, Bor, List, [], ◌++◌, All, length, map}
 use Rattle.std.proofs.Common.{length-append, Some, Result, Ok, Err}
 use Rattle.std.specs.Prelude.{slice_get}
-use Rattle.std.specs.List.{zip}
 use Rattle.std.proofs.lemmas.List.{length-map}
 use Rattle.std.proofs.lemmas.Option.{slice_get_within}
 use Rattle.rs_choice.specs.Plan.{Peer, Plan}
 use Rattle.rs_mrt.specs.MemoryReading.{MemoryReading, Comes}
 use Rattle.rs_mrt.specs.Reader.{ReadEnd, FileEnds, ReadFails}
 use Rattle.rs_mrt.specs.RecordReading.{read_limit}
-use Rattle.rs_session.specs.Change.{Change}
-use Rattle.rs_session.specs.FileChanges.{changes_in_by, passed_in_by}
+use Rattle.rs_session.specs.FileChanges.{changes_in_by}
 use Rattle.rs_session.specs.Given.{IsGiven, MayFail}
 use Rattle.rs_session.specs.declared.peer.PeerId.{PeerId}
 use Rattle.rs_update.specs.declared.errors.Errors.{Errors}
 use Rattle.rs_serve.specs.Identity.{id_of}
 use Rattle.rs_serve.specs.Served.{tables_of}
-use Rattle.rs_floor.specs.ServeFiles.{ServeFilesAnswer, whole_of}
+use Rattle.rs_floor.specs.ServeFiles.{ServeFilesAnswer}
+use Rattle.rs_serve.specs.AtHand.{whole_of}
 use Rattle.rs_serve.specs.ServeAnswer.{ServeAnswer}
 use Rattle.rs_serve.specs.Served.{ServedContent, IsEndOf, IsServed, IsServedBy, changes_by_peer}
 use Rattle.rs_serve.specs.declared.ended.PeerEnd.{PeerEnd}
 use Rattle.rs_serve.specs.declared.fault.FloorRefused.{FloorRefused}
 use Rattle.rs_serve.specs.declared.fault.FloorRefused.TheVariants.{Memory, Unsettled, Capacity, Read, Shards}
 use Rattle.rs_patience.proofs.PlaceLemmas.{all-at, get-map, map-get, some-at}
-use Rattle.rs_floor.proofs.serving.FileLemmas.{front-says}
-use Rattle.rs_serve.proofs.ListLemmas.{same-places, zip-at, zip-counted}
+use Rattle.rs_serve.proofs.AtHandLemmas.{GivesJust, SaysSame, given-whole, same-zipped}
 
 -- a reader gives just the octets that it has at hand, and no read fails
 pub record IsAtHand {R : Type 0} (gives : R → List ℕ → ReadEnd → Type 0) (f : R → List ℕ) (reader : R) : Type 0 where
-  pub only : (octets : List ℕ) (end : ReadEnd) → gives reader octets end → (octets ≡ f reader) × (end ≡ FileEnds)
+  pub only : GivesJust gives reader (f reader)
   pub fits : length (f reader) < read_limit
-
--- two files say the same of a peer
-record SaysSame (errors : Errors) (peer : PeerId) (file whole : List ℕ) : Type 0 where
-  changes : changes_in_by errors peer file ≡ changes_in_by errors peer whole
-  passed : passed_in_by errors peer file ≡ passed_in_by errors peer whole
-
--- what is given of a file at hand says what the file says
-given-whole : {R : Type 0} (gives : R → List ℕ → ReadEnd → Type 0) (f : R → List ℕ) (errors : Errors) (peer : PeerId) (reader : R)
-    (file : List ℕ) → IsAtHand gives f reader → IsGiven gives errors peer reader file → SaysSame errors peer file (f reader)
-given-whole gives f errors peer reader file hand (inl whole) =
-    let e : file ≡ f reader = (hand.only file FileEnds whole.given).0 in
-    record { changes = ap (changes_in_by errors peer) e; passed = ap (passed_in_by errors peer) e }
-given-whole gives f errors peer reader file hand (inr close) =
-    let e : file ++ close.later ≡ f reader = (hand.only (file ++ close.later) close.end close.given).0 in
-    let s = front-says errors peer file close.later close.closes in
-    record { changes = sym s.0 ∙ ap (changes_in_by errors peer) e; passed = sym s.1 ∙ ap (passed_in_by errors peer) e }
 
 -- no read of it fails
 none-fails : {R : Type 0} (gives : R → List ℕ → ReadEnd → Type 0) (f : R → List ℕ) (errors : Errors) (peer : PeerId) (reader : R)
@@ -68,37 +50,13 @@ module _ {R : Type 0} (gives : R → List ℕ → ReadEnd → Type 0) (f : R →
   same : (place : ℕ) (peer : Peer) (reader : R) (file : List ℕ) → slice_get plan.peers place ≡ Some peer
       → slice_get readers place ≡ Some reader → slice_get s.0 place ≡ Some file → SaysSame errors (id_of peer) file (f reader)
   same place peer reader file ep er ef =
-      given-whole gives f errors (id_of peer) reader file (hand place reader er)
+      given-whole gives errors (id_of peer) reader file (f reader) (hand place reader er).only
       (s.1.each place (id_of peer) reader file (get-map id_of plan.peers place peer ep) er ef)
 
-  of-zip : (files : List (List ℕ)) → length files ≡ length plan.peers → length (changes_by_peer errors plan files) ≡ length plan.peers
-  of-zip files counts =
-      length-map (zip plan.peers files) (λ (peer, file). changes_in_by errors (id_of peer) file) ∙ zip-counted plan.peers files counts
-
-  recorded-at : (files : List (List ℕ)) (place : ℕ) (peer : Peer) (file : List ℕ) → slice_get plan.peers place ≡ Some peer
-      → slice_get files place ≡ Some file → slice_get (changes_by_peer errors plan files) place
-      ≡ Some (changes_in_by errors (id_of peer) file)
-  recorded-at files place peer file ep ef =
-      get-map (λ (p, o). changes_in_by errors (id_of p) o) (zip plan.peers files) place (peer, file)
-      (zip-at plan.peers files place peer file ep ef)
-
   same-changes : changes_by_peer errors plan s.0 ≡ changes_by_peer errors plan (map f readers)
-  same-changes = same-places (changes_by_peer errors plan (map f readers)) (changes_by_peer errors plan s.0)
-      (of-zip (map f readers) (length-map readers f ∙ as_many) ∙ sym (of-zip s.0 files-counted)) places
-    where
-      places : (place : ℕ) (changes : List Change) → slice_get (changes_by_peer errors plan (map f readers)) place ≡ Some changes
-          → slice_get (changes_by_peer errors plan s.0) place ≡ Some changes
-      places place changes e =
-          let within : place < length (changes_by_peer errors plan (map f readers)) =
-          slice_get_within (changes_by_peer errors plan (map f readers)) place changes e in
-          let total : length (changes_by_peer errors plan (map f readers)) ≡ length plan.peers =
-          of-zip (map f readers) (length-map readers f ∙ as_many) in
-          let peer = some-at plan.peers place (omega (arith, within, total)) in
-          let reader = some-at readers place (omega (arith, within, total, as_many)) in
-          let file = some-at s.0 place (omega (arith, within, total, files-counted)) in
-          let one = same place peer.0 reader.0 file.0 peer.1 reader.1 file.1 in
-          recorded-at s.0 place peer.0 file.0 peer.1 file.1 ∙ ap Some one.changes
-          ∙ sym (recorded-at (map f readers) place peer.0 (f reader.0) peer.1 (get-map f readers place reader.0 reader.1)) ∙ e
+  same-changes =
+      same-zipped (λ (peer : Peer) (file : List ℕ). changes_in_by errors (id_of peer) file) f plan.peers readers s.0 s.1.as_many
+      (λ place peer reader file ep er ef. (same place peer reader file ep er ef).changes)
 
   ends : (place : ℕ) (peer : Peer) (whole : List ℕ) (end : PeerEnd) → slice_get plan.peers place ≡ Some peer
       → slice_get (map f readers) place ≡ Some whole → slice_get served.ends place ≡ Some end → IsEndOf errors (id_of peer) whole end

@@ -1,6 +1,8 @@
--- The answer to a run of which all threads were joined: for `judge` and `settle` of serving.rt.
-use Rattle.std.proofs.Common.{◌≡◌, ◌∙◌, sym, ap, subst, ℕ, zero, Bool, true, false, not, List, [], ◌∷◌, All, length, map, Result, Ok, Err}
-use Rattle.std.specs.Prelude.{◌||◌, IfErr, OnOk}
+-- The answer to a run of which all threads were joined: for `settle` of serving.rt.
+use Rattle.std.proofs.Common.{◌≡◌, ◌∙◌, sym, ap, subst, ℕ, zero, inl, inr, Bool, true, false, not, List, [], ◌∷◌, All, length, map}
+use Rattle.std.proofs.Common.{Result, Ok, Err}
+use Rattle.std.specs.Prelude.{IfErr}
+use Rattle.std.specs.Result.{IsErrAnd}
 use Rattle.std.specs.List.{list_any}
 use Rattle.std.proofs.lemmas.Bool.{not-false, or_parts}
 use Rattle.std.proofs.lemmas.List.Elements.{All-nil, All-cons, All-head, All-tail}
@@ -10,8 +12,7 @@ use Rattle.rs_table.specs.Content.{TablesContent}
 use Rattle.rs_table.specs.Merge.{IsMerged}
 use Rattle.rs_worker.specs.Worked.{is_memory}
 use Rattle.rs_worker.specs.declared.crew.Joined.{Joined}
-use Rattle.rs_serve.specs.Outcome.{IsLeastPlace, IsVerdict}
-use Rattle.rs_serve.specs.Run.{CanMerge, IsRefusal, IsWell}
+use Rattle.rs_serve.specs.Run.{CanMerge, IsRefusal, IsVerdictOn, IsWell}
 use Rattle.rs_serve.specs.declared.fault.FloorRefused.{FloorRefused}
 use Rattle.rs_serve.specs.declared.fault.FloorRefused.TheVariants.{Memory, Unsettled, Read}
 
@@ -29,13 +30,10 @@ wells (e ∷ es) none reads settled =
     (All-tail (λ v. v ≡ true) e.settled (map (λ (end : Joined). end.settled) es) settled))
 
 -- where the verdict is well, all is
-all-well : (ends : List Joined) (memory whole : Bool) (failed settled : List Bool)
-    → memory ≡ (list_any (λ end. is_memory end.reason) ends || not whole) → failed ≡ map (λ end. is_read end.reason) ends
-    → settled ≡ map (λ end. end.settled) ends
-    → (memory ≡ false) × All (λ v. v ≡ false) failed × All (λ v. v ≡ true) settled → (whole ≡ true) × All IsWell ends
-all-well ends memory whole failed settled is reads settles verdict =
-    let parts = or_parts (list_any (λ (end : Joined). is_memory end.reason) ends) (not whole) (sym is ∙ verdict.0) in
-    (not-false whole parts.1, wells ends parts.0 (rw reads at verdict.1) (rw settles at verdict.2))
+pub all-well : (ends : List Joined) (whole : Bool) → IsVerdictOn ends whole (Ok tt) → (whole ≡ true) × All IsWell ends
+all-well ends whole verdict =
+    let parts = or_parts (list_any (λ (end : Joined). is_memory end.reason) ends) (not whole) verdict.0 in
+    (not-false whole parts.1, wells ends parts.0 verdict.1 verdict.2)
 
 -- tables made of parts that can be merged are over a plan of so many peers
 pub merged-counted : (peers : ℕ) (parts : List TablesContent) (merged : TablesContent) → CanMerge peers parts → IsMerged parts merged
@@ -57,39 +55,30 @@ no-reads (e ∷ es) none =
     (no-reads es (All-tail (λ v. v ≡ false) (is_read e.reason) (map (λ (end : Joined). is_read end.reason) es) none))
 
 -- where it isn't, the verdict says why
-refusal : (ends : List Joined) (memory whole : Bool) (failed settled : List Bool) (fault : FloorRefused)
-    → memory ≡ (list_any (λ end. is_memory end.reason) ends || not whole) → failed ≡ map (λ end. is_read end.reason) ends
-    → settled ≡ map (λ end. end.settled) ends
-    → IsVerdict memory failed settled (Err fault) → IsRefusal ends whole fault
-refusal ends memory whole failed settled Memory is reads settles verdict = tt
-refusal ends memory whole failed settled (Read peer) is reads settles verdict =
-    let parts = or_parts (list_any (λ (end : Joined). is_memory end.reason) ends) (not whole) (sym is ∙ verdict.0) in record {
+refusal : (ends : List Joined) (whole : Bool) (fault : FloorRefused) → IsVerdictOn ends whole (Err fault) → IsRefusal ends whole fault
+refusal ends whole Memory verdict = inl verdict
+refusal ends whole (Read peer) verdict =
+    let parts = or_parts (list_any (λ (end : Joined). is_memory end.reason) ends) (not whole) verdict.0 in
+    record { whole_is = not-false whole parts.1; remember = remembers ends parts.0; least = verdict.1 }
+refusal ends whole (Unsettled peer) verdict =
+    let parts = or_parts (list_any (λ (end : Joined). is_memory end.reason) ends) (not whole) verdict.0 in
+    record {
       whole_is = not-false whole parts.1;
       remember = remembers ends parts.0;
-      least = subst (λ (values : List Bool). IsLeastPlace true false values peer) reads verdict.1;
+      read = no-reads ends verdict.1;
+      least = verdict.2;
     }
-refusal ends memory whole failed settled (Unsettled peer) is reads settles verdict =
-    let parts = or_parts (list_any (λ (end : Joined). is_memory end.reason) ends) (not whole) (sym is ∙ verdict.0) in record {
-      whole_is = not-false whole parts.1;
-      remember = remembers ends parts.0;
-      read = no-reads ends (rw reads at verdict.1);
-      least = subst (λ (values : List Bool). IsLeastPlace false true values peer) settles verdict.2;
-    }
-refusal ends memory whole failed settled fault is reads settles verdict = absurd verdict
+refusal ends whole fault verdict = absurd verdict
 
--- so it is of the verdict's answer
-pub well-of : (ends : List Joined) (memory whole : Bool) (failed settled : List Bool) (result : Result (Unit {0}) FloorRefused)
-    → memory ≡ (list_any (λ end. is_memory end.reason) ends || not whole) → failed ≡ map (λ end. is_read end.reason) ends
-    → settled ≡ map (λ end. end.settled) ends
-    → IsVerdict memory failed settled result → OnOk result ((whole ≡ true) × All IsWell ends)
-well-of ends memory whole failed settled (Ok done) is reads settles verdict =
-    all-well ends memory whole failed settled is reads settles verdict
-well-of ends memory whole failed settled (Err fault) is reads settles verdict = tt
+-- so the answer is refused, too
+pub judge-refuses : {A : Type 0} (ends : List Joined) (whole : Bool) (fault : FloorRefused) (result : Result A FloorRefused)
+    → IsErrAnd result (λ found. found ≡ fault) → IsVerdictOn ends whole (Err fault) → IfErr result (IsRefusal ends whole)
+judge-refuses ends whole fault (Ok value) same verdict = absurd same
+judge-refuses ends whole fault (Err found) same verdict =
+    subst (IsRefusal ends whole) (sym same) (refusal ends whole fault verdict)
 
-pub refused-of : (ends : List Joined) (memory whole : Bool) (failed settled : List Bool) (result : Result (Unit {0}) FloorRefused)
-    → memory ≡ (list_any (λ end. is_memory end.reason) ends || not whole) → failed ≡ map (λ end. is_read end.reason) ends
-    → settled ≡ map (λ end. end.settled) ends
-    → IsVerdict memory failed settled result → IfErr result (IsRefusal ends whole)
-refused-of ends memory whole failed settled (Ok done) is reads settles verdict = tt
-refused-of ends memory whole failed settled (Err fault) is reads settles verdict =
-    refusal ends memory whole failed settled fault is reads settles verdict
+-- or all is well, and memory was refused to the answer
+pub answer-refused : {A : Type 0} (ends : List Joined) (whole : Bool) (result : Result A FloorRefused)
+    → IsErrAnd result (λ found. found ≡ Memory) → (whole ≡ true) × All IsWell ends → IfErr result (IsRefusal ends whole)
+answer-refused ends whole (Ok value) same well = absurd same
+answer-refused ends whole (Err found) same well = subst (IsRefusal ends whole) (sym same) (inr well)

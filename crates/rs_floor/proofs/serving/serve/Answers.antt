@@ -3,7 +3,7 @@ use mathlib.Core.List.{map-map}
 use Rattle.std.proofs.Common.{◌≡◌, ◌∙◌, ap, List, ℕ, Bor, map}
 use Rattle.rs_mrt.specs.MemoryReading.{MemoryReading, Comes}
 use Rattle.rs_session.specs.FileChanges.{default_standard}
-use Rattle.rs_floor.specs.ServeFiles.{whole_of}
+use Rattle.rs_serve.specs.AtHand.{whole_of}
 use Rattle.rs_floor.proofs.serving.AtHandLemmas.{answer-at-hand, wholes-at-hand}
 use Rattle.rs_floor.proofs.serving.serve.Goals as goal
 

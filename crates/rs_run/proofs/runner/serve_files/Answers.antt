@@ -8,8 +8,8 @@ returns-in-Ok-clause-served g c =
     served-files g.R.Read.gives c.args.options.now.errors c.args.plan.now.value c.args.readers.items c.in-Ok.served
     c.a_session_closes_once.ensures c.requires.one_for_each c.in-Ok.ensures.answer.1
 
-pub read_fault-requires : goal.read_fault-requires
-read_fault-requires g c =
+pub fault_of-requires : goal.fault_of-requires
+fault_of-requires g c =
     let options = c.args.options.now in
     is-read-refusal g.R.Read.gives options.errors c.args.plan.now.value c.args.readers.items options.ring options.shards c.in-Err.refused
     (limits-within options.ring options.shards c.requires.ring.0 c.requires.ring.1 c.requires.shards.0 c.requires.shards.1)
@@ -19,4 +19,4 @@ pub returns-in-Err-clause-fault : goal.returns-in-Err-clause-fault
 returns-in-Err-clause-fault g c =
     let options = c.args.options.now in
     is-read-stop g.R.Read.gives options.errors c.args.plan.now.value c.args.readers.items options.ring options.shards c.in-Err.refused
-    c.read_fault.result c.read_fault.ensures c.in-Err.ensures.answer
+    c.fault_of.result c.fault_of.ensures c.in-Err.ensures.answer

@@ -3,6 +3,7 @@ use Rattle.std.proofs.Common.{◌≡◌, ◌∙◌, ◌<◌, ◌-◌, ◌^◌, s
 use Rattle.std.specs.Prelude.{slice_get}
 use Rattle.std.specs.Vec.Iter.{into_iter_items}
 use Rattle.std.proofs.lemmas.List.{nil_from_length}
+use Rattle.std.proofs.lemmas.List.Elements.{All-nil, All-push}
 use Rattle.std.proofs.lemmas.Option.{slice_get_within}
 use Rattle.rs_choice.specs.Plan.{peer_of}
 use Rattle.rs_patience.proofs.PlaceLemmas.{all-at, drop-front}
@@ -23,11 +24,16 @@ loop-reader-preserved g c =
           (into_iter_items c.into_iter-reader-iterator.result) (into_iter_items c.next.new.self)
           c.loop-reader.lines.jobs.items c.loop-reader.lines.from.items (peer_of c.peer-peer.result.now)
           c.in-Some.reader more.job more.receiver so_far at more.line);
+      room = rw more.jobs_are (All-push (λ job. job.out.capacity ≡ c.args.capacity)
+          c.loop-reader.lines.jobs.items more.job c.loop-reader.invariant.room more.room);
       left = search rules;
     }
 
-pub returns : goal.returns
-returns g c =
+pub returns-clause-room : goal.returns-clause-room
+returns-clause-room g c = c.loop-reader.invariant.room
+
+pub returns-clause-lines : goal.returns-clause-lines
+returns-clause-lines g c =
     let none : into_iter_items c.loop-reader.reader-iterator ≡ [] =
     nil_from_length (into_iter_items c.loop-reader.reader-iterator) (sym c.loop-reader.invariant.left ∙ c.in-None.ensures.steps.0) in
     let readers : into_iter_items c.into_iter-reader-iterator.result ≡ c.args.readers.items =
@@ -40,6 +46,7 @@ pub loop-reader-init : goal.loop-reader-init
 loop-reader-init g c = record {
   opening = opening-none g.R.Read.gives c.args.plan.now (into_iter_items c.into_iter-reader-iterator.result)
       c.new.result.items c.new-2.result.items c.new.ensures.items c.new-2.ensures.items;
+  room = rw c.new.ensures.items (All-nil (λ job. job.out.capacity ≡ c.args.capacity));
   left = search rules;
 }
 

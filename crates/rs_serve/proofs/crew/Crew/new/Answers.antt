@@ -8,11 +8,11 @@ use Rattle.rs_serve.proofs.crew.Crew.new.Goals as goal
 pub invariant_of-result : goal.invariant_of-result
 invariant_of-result g c =
     let counts : length c.in_ok-lines.lines.jobs.items ≡ length c.deref-2.result.now.peers =
-    same-counted (λ job. job.id) id_of c.in_ok-lines.lines.jobs.items c.deref-2.result.now.peers c.in_ok-lines.ensures.peers in
+    same-counted (λ job. job.id) id_of c.in_ok-lines.lines.jobs.items c.deref-2.result.now.peers c.in_ok-lines.ensures.lines.peers in
     let plans : length c.deref-2.result.now.peers ≡ length c.deref.result.now.peers =
     ap (λ (p : Plan). length p.peers) (c.deref-2.ensures ∙ sym c.deref.ensures) in
     record {
-      can_work = c.in_ok-lines.ensures.can;
+      can_work = c.in_ok-lines.ensures.lines.can;
       can_share = c.in_ok-rings.ensures.rings.can;
       few = omega (arith, counts, plans, c.count.ensures.value, c.count.ensures.bound);
       room_for_workers =

@@ -16,4 +16,5 @@ returns g c = record {
     ready = search rules;
     unreceived = search rules;
   };
+  room = search rules;
 }

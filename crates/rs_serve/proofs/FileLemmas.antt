@@ -1,4 +1,4 @@
--- What follows the record that ends a session says nothing: for `serve` of serving.rt, by AtHandLemmas.
+-- What follows the record that ends a session says nothing: for AtHandLemmas.
 use Rattle.std.proofs.Common.{◌≡◌, ◌∙◌, sym, ap, refl, ℕ, ◌+◌, ◌*◌, ◌^◌, ◌≤◌, zero, suc, arith, Bool, true, false, cond, not, List, [], ◌∷◌}
 use Rattle.std.proofs.Common.{◌++◌, length, take, drop, length-append, length-drop, Option, Some}
 use Rattle.std.specs.Prelude.{nat_le, slice_index, find, take_while, if◌then◌else◌}
