@@ -5,7 +5,7 @@
 //! result of a run is the same. If a dump isn't kept, those behind it are lost. Memory for a dump is taken before
 //! the dump is started, so that each dump that is started is kept or lost.
 
-ghost use Rattle.std.specs.Prelude.{◌≡◌, ◌+◌, ◌<◌, ◌≤◌, ◌∷◌, [], IfErr, IfNone, IfOk, IfSome, OnErr, OnOk};
+ghost use Rattle.std.specs.Prelude.{◌≡◌, ◌+◌, ◌<◌, ◌≤◌, ◌∷◌, [], IfErr, IfNone, IfOk, IfSome, IsErrOf, OnErr, OnOk};
 ghost use Rattle.std.specs.Prelude.{length, vec_capacity};
 ghost use Rattle.std.specs.Vec.Iter.{into_iter_items};
 ghost use Rattle.rs_table.specs.Table.{table_of};
@@ -154,6 +154,7 @@ fn begin<'a, O: Outlet>(
     ensures no_failure { OnOk result (O.failures outlet.new ≡ O.failures outlet.old) }
     ensures fault { IfErr result (IsFaultAt client (length (table_of dumping.now.tables.now client))
         (O.failures outlet.old) (O.failures outlet.new)) }
+    ensures memory { IsErrOf result RunFault.Memory → length (table_of dumping.now.tables.now client) ≤ u32.MAX }
 {
     let dump = match TableDump::begin(dumping.alloc, dumping.tables, client, dumping.time) {
         Ok(dump) => dump,
