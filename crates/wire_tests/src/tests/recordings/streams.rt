@@ -1,9 +1,10 @@
-//! Writers over memory, with limits and without, and readers and writers of std.
+//! Readers and writers over memory, with limits and without, and readers and writers of std.
 
 ghost use Rattle.std.specs.Prelude.{◌≡◌, ◌++◌, ◌<◌, OnOk};
 
 use rs_mrt::{
-    Failed, IoReader, IoWriter, Limits, MemoryWriter, Read, RecordReader, Source, Write, write_all,
+    Failed, IoReader, IoWriter, Limits, MemoryReader, MemoryWriter, Read, ReadLimits, RecordReader,
+    Source, SourceFault, Write, write_all,
 };
 use std::alloc::Global;
 use std::io;
@@ -68,6 +69,44 @@ fn a_file_that_the_buffer_holds_comes_in_one_call(rt: HostRuntime) {
     let answers = [records.advance(), records.advance(), records.advance()];
     let count = calls.load(Ordering::SeqCst);
     assert_eq!(rt; (answers, count), ([Ok(true), Ok(true), Ok(false)], 2));
+}
+
+// Four answers of a reader of the two records. Each call gives one octet, but the one after so many calls fails.
+fn answers_with_failed_call(calls: u64) -> [Result<bool, SourceFault>; 4] {
+    let limits = ReadLimits {
+        calls_before_failure: Some(calls),
+        piece: 1,
+        ..ReadLimits::none()
+    };
+    let mut records = RecordReader::new(MemoryReader::new(TWO_RECORDS, limits));
+    [
+        records.advance(),
+        records.advance(),
+        records.advance(),
+        records.advance(),
+    ]
+}
+
+// The right ones: the records that came whole before the failed call, and then the failed read for ever. The call after
+// 27 others tells the end of the file, if it doesn't fail.
+fn right_answers_with_failed_call(calls: u64) -> [Result<bool, SourceFault>; 4] {
+    let failed = Err(SourceFault::Read);
+    match calls {
+        0..=14 => [failed, failed, failed, failed],
+        15..=26 => [Ok(true), failed, failed, failed],
+        27 => [Ok(true), Ok(true), failed, failed],
+        _ => [Ok(true), Ok(true), Ok(false), Ok(false)],
+    }
+}
+
+// The first number of calls with other answers.
+fn first_wrong_call() -> Option<u64> {
+    (0..30).find(|calls| answers_with_failed_call(*calls) != right_answers_with_failed_call(*calls))
+}
+
+#[test]
+fn whichever_call_fails_the_records_before_it_come(rt: HostRuntime) {
+    assert_eq!(rt; first_wrong_call(), None);
 }
 
 const PIECE: [u8; 40] = [7; 40];
