@@ -1,12 +1,11 @@
 //! A run on threads: one for each peer's recorded session, and one for each shard of the tables.
 
-ghost use Rattle.std.specs.List.{list_any};
-ghost use Rattle.std.specs.Prelude.{◌≡◌, ◌<◌, All, IfErr, IfOk, IsTrue, length, map, true, false};
+ghost use Rattle.std.specs.List.{list_any, position};
+ghost use Rattle.std.specs.Prelude.{◌≡◌, ◌<◌, All, IfErr, IfOk, IsTrue, length, map, not};
 ghost use Rattle.rs_session.specs.Change.{is_read};
 ghost use Rattle.rs_worker.specs.Worked as spec;
 ghost use Rattle.rs_serve.specs.Run.{CanMerge, IsAnswer, IsRefusal, IsVerdictOn, end_of};
 ghost use Rattle.rs_serve.specs.Run.{is_out_of_memory};
-ghost use Rattle.rs_serve.specs.Outcome.{IsFirst};
 ghost use Rattle.rs_router.specs.ShardParts.{IsShardCount};
 ghost use Rattle.rs_serve.specs.ServeAnswer.{ServeAnswer};
 ghost use Rattle.rs_serve.specs.Served.{is_shard_count};
@@ -123,14 +122,14 @@ fn is_any_refused(ends: &[Joined]) -> bool
 
 // The least peer with a failed read.
 fn first_failed(ends: &[Joined]) -> Option<usize>
-    ensures { IsFirst true false (map (λ end. is_read end.reason) ends.now) result }
+    ensures { result ≡ position (λ end. is_read end.reason) ends.now }
 {
     ends.iter().position(|end| is_failed_read(end.reason))
 }
 
 // The least peer of which perhaps not all that was sent was received.
 fn first_unsettled(ends: &[Joined]) -> Option<usize>
-    ensures { IsFirst false true (map (λ end. end.settled) ends.now) result }
+    ensures { result ≡ position (λ end. not end.settled) ends.now }
 {
     ends.iter().position(|end| !end.settled)
 }
