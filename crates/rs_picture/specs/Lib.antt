@@ -1,4 +1,5 @@
 pub mod Bars
 pub mod Lanes
+pub mod Marks
 pub mod Markup
 pub mod Ticks

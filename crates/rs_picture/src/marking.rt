@@ -1,6 +1,7 @@
 //! The marks of an axis of time: its round times, and how each is shown.
 
 ghost use Rattle.std.specs.Prelude.{◌≡◌, ◌≤◌, All, IfOk};
+ghost use Rattle.rs_picture.specs.Marks.{mark_of, marks_of};
 ghost use Rattle.rs_picture.specs.Ticks.{IsOnAxis};
 
 use crate::time_axis::{MOST_TICKS, TimeAxis, first_tick, tick_step};
@@ -34,8 +35,9 @@ impl fmt::Display for Mark {
     }
 }
 
-/// The marks of an axis, in the order of time. Fails where memory is refused.
+/// The marks of an axis, in the order of time: one of each round time on it. Fails where memory is refused.
 pub fn marks(alloc: Global, axis: &TimeAxis) -> Result<Vec<Mark>, AllocError>
+    ensures all { IfOk result (λ marks. marks.items ≡ marks_of axis.now) }
     ensures on_axis { IfOk result (λ marks.
         All (λ mark. IsOnAxis axis.now.first axis.now.last axis.now.width mark.time mark.place) marks.items) }
 {
@@ -55,7 +57,8 @@ pub fn marks(alloc: Global, axis: &TimeAxis) -> Result<Vec<Mark>, AllocError>
 fn mark_at(axis: &TimeAxis, time: u32) -> Mark
     requires no_earlier { axis.now.first ≤ time }
     requires no_later { time ≤ axis.now.last }
-    ensures { IsOnAxis axis.now.first axis.now.last axis.now.width result.time result.place }
+    ensures value { result ≡ mark_of axis.now time }
+    ensures on_axis { IsOnAxis axis.now.first axis.now.last axis.now.width result.time result.place }
 {
     Mark {
         time,

@@ -1,7 +1,8 @@
 //! Where times lie on an axis, and which round times are marked.
 
-ghost use Rattle.std.specs.Prelude.{◌≡◌, ◌+◌, ◌*◌, ◌-◌, ◌<◌, ◌≤◌, ◌∷◌, []};
+ghost use Rattle.std.specs.Prelude.{◌≡◌, ◌+◌, ◌*◌, ◌-◌, ◌<◌, ◌≤◌, ◌∷◌, [], min};
 ghost use Rattle.rs_picture.specs.Bars.{IsProportional};
+ghost use Rattle.rs_picture.specs.Marks.{place_of};
 ghost use Rattle.rs_picture.specs.Ticks.{most_ticks, steps, step_for, IsFirstTick};
 
 use crate::bars::bar_length;
@@ -58,6 +59,7 @@ impl TimeAxis {
     /// Where a time lies, in pixels from the beginning: at the part of the width that its part of the time is, within
     /// a pixel. A time before the first lies at the beginning, one behind the last at the end.
     pub fn place(&self, time: u32) -> u32
+        ensures value { result ≡ place_of self.now time }
         ensures within { result ≤ self.now.width }
         ensures proportional { self.now.first ≤ time → time ≤ self.now.last → self.now.first < self.now.last
             → IsProportional (time - self.now.first) (self.now.last - self.now.first) self.now.width result }
@@ -67,8 +69,13 @@ impl TimeAxis {
         bar_length(u64::from(past), u64::from(span), self.width)
     }
 
-    /// Where the time between two others lies. It is seen, even if both are one: then it has a pixel.
+    /// Where the time between two others lies: from the place of the first one to that of the second one. It is seen,
+    /// even if both are one: then it has a pixel.
     pub fn stretch(&self, from: u32, to: u32) -> Stretch
+        ensures between { place_of self.now from < place_of self.now to
+            → (result.begin ≡ place_of self.now from) × (result.begin + result.length ≡ place_of self.now to) }
+        ensures pixel { place_of self.now to ≤ place_of self.now from → 0 < self.now.width
+            → (result.begin ≡ min (place_of self.now to) (self.now.width - 1)) × (result.length ≡ 1) }
         ensures inside { result.begin + result.length ≤ self.now.width }
         ensures seen { 0 < self.now.width → 0 < result.length }
     {
