@@ -12,6 +12,7 @@ pub mod Tables  -- which of its tables is taken
 pub mod Writing  -- one that is being written
 pub mod Joins  -- how its UPDATE is filled
 pub mod HeldView  -- its UPDATE that is being filled, by its fields
+pub mod Counting  -- how entries and records are counted
 pub mod Sessions  -- the sessions that a table is read into
 -- What the contracts name of the crates below:
 pub use Rattle.byteorder.specs.Endian

@@ -3,6 +3,7 @@ use Rattle.std.specs.Prelude.{◌≡◌, ℕ, ◌<◌, List, [], ◌++◌, ◌�
 use Rattle.rs_mrt.specs.Reader.{ReadEnd, FileEnds}
 use Rattle.rs_mrt.specs.Record.{MrtRecord}
 use Rattle.rs_update.specs.IpPrefix.{IpPrefix}
+use Rattle.rs_start.specs.Counting.{Counted, outcomes_from}
 use Rattle.rs_start.specs.Opening.{TableRoute}
 use Rattle.rs_start.specs.Table.{Leads, TableEntry, entry_at}
 use Rattle.rs_start.specs.TableFile.{AllHave, HasRoutes, IsTable, TableRow, part_of, rows_of, told_from}
@@ -12,7 +13,45 @@ use Rattle.rs_start.specs.declared.index.IndexPeer.{IndexPeer}
 use Rattle.rs_start.specs.declared.part.Part.TheVariants.{Index}
 use Rattle.rs_start.specs.declared.part.TableEnd.{TableEnd}
 use Rattle.rs_start.specs.declared.part.TableEnd.TheVariants.{EndOfFile, NextIndex}
+use Rattle.rs_start.specs.declared.fault.RoutesFault.{RoutesFault}
+use Rattle.rs_start.specs.declared.fault.RoutesFault.TheVariants.{Table, Memory, Write}
+use Rattle.rs_start.specs.declared.sessions.EntriesFault.{EntriesFault}
+use Rattle.rs_start.specs.declared.sessions.EntriesFault.TheVariants as EntriesFault
 use Rattle.rs_start.specs.declared.sessions.PeerSession.{PeerSession}
+
+-- what became of the rows of each peer is counted for that peer
+abbrev pub CountsGo : {W : Type 0} → List (PeerSession W) → List (PeerSession W) → List TableRow → Type 0
+CountsGo {W} olds news rows =
+    (place : ℕ) (d : PeerSession W) → place < length olds
+    → Counted (slice_index_or olds place d).counts (slice_index_or news place d).counts
+    (outcomes_from (slice_index_or olds place d).writer place rows)
+
+-- ---- failed writes
+
+module _ {W : Type 0} (failures : W → ℕ) where
+  -- the writer of a session has failed
+  abbrev pub HasFailed : Option (Writing W) → Type 0
+  HasFailed (Some writing) = 0 < failures writing.out
+  HasFailed None = ⊥
+
+  -- that of the peer at a place of the index has
+  pub record PeerFailed (sessions : List (PeerSession W)) (place : ℕ) : Type 0 where
+    pub known : place < length sessions
+    pub failed : (d : PeerSession W) → HasFailed (slice_index_or sessions place d).writer
+
+  -- a fault of a write names such a peer
+  abbrev pub NamesPeer : List (PeerSession W) → RoutesFault → Type 0
+  NamesPeer sessions (Write place) = PeerFailed sessions place
+  NamesPeer sessions (Table fault) = Unit {0}
+  NamesPeer sessions Memory = Unit {0}
+
+  -- the same of the entries of a record
+  abbrev pub EntriesNamePeer : List (PeerSession W) → EntriesFault → Type 0
+  EntriesNamePeer sessions (EntriesFault.Write place) = PeerFailed sessions place
+  EntriesNamePeer sessions (EntriesFault.Part fault) = Unit {0}
+  EntriesNamePeer sessions EntriesFault.Memory = Unit {0}
+
+-- ---- sessions that go on
 
 module _ {W : Type 0} (taken : W → Option (List ℕ)) where
   -- the session of a peer begins with these further routes, if a session is written
@@ -26,11 +65,12 @@ module _ {W : Type 0} (taken : W → Option (List ℕ)) where
   GoesBy None (Some new) more = ⊥
   GoesBy None None more = Unit {0}
 
-  -- each session goes on with the routes that its peer has in these rows
+  -- Each session goes on with the routes that its peer has in these rows, and what became of the rows is counted.
   pub record AllGo (olds news : List (PeerSession W)) (rows : List TableRow) : Type 0 where
     pub count : length news ≡ length olds
     pub each : (place : ℕ) (d : PeerSession W) → place < length olds
         → GoesBy (slice_index_or olds place d).writer (slice_index_or news place d).writer (told_from place rows)
+    pub counts : CountsGo olds news rows
 
   -- so many entries stand at the beginning of the octets, and then the rest; their rows were added to the sessions
   pub record AddsEntries (prefix : IpPrefix) (count : ℕ) (octets rest : List ℕ) (olds news : List (PeerSession W))
@@ -59,11 +99,13 @@ module _ {W : Type 0} (taken : W → Option (List ℕ)) where
   EndsBy None (Some new) more = ⊥
   EndsBy None None more = Unit {0}
 
-  -- each session is written whole, with the routes that its peer has in these rows
+  -- Each session is written whole, with the routes that its peer has in these rows, and what became of the rows is
+  -- counted.
   pub record AllEnd (olds news : List (PeerSession W)) (rows : List TableRow) : Type 0 where
     pub count : length news ≡ length olds
     pub each : (place : ℕ) (d : PeerSession W) → place < length olds
         → EndsBy (slice_index_or olds place d).writer (slice_index_or news place d).writer (told_from place rows)
+    pub counts : CountsGo olds news rows
 
 module _ {R W : Type 0} (gives : R → List ℕ → ReadEnd → Type 0) (taken : W → Option (List ℕ)) where
   -- records behind the index were read, and their rows added to the sessions

@@ -1,5 +1,9 @@
 //! What is left out of the sessions that a table begins, by reason.
 
+ghost use Rattle.std.specs.Prelude.{◌≡◌, ◌∷◌, [], Some};
+ghost use Rattle.rs_start.specs.Counting.{Counted, GrowsBy, one_if};
+ghost use Rattle.rs_start.specs.Counting.{is_add_path, is_generic, is_ipv4_multicast, is_ipv6, is_other, is_two_octet};
+
 use crate::added::{Added, Reason};
 use crate::part::TABLE_DUMP_V2;
 
@@ -31,14 +35,15 @@ impl Counts {
     }
 
     // Counts an entry.
-    pub(crate) fn add(&mut self, added: Added) {
-        let count = match added {
-            Added::Written => &mut self.written,
-            Added::LeftOut(Reason::Multicast) => &mut self.multicast,
-            Added::LeftOut(Reason::TooLong) => &mut self.too_long,
-            Added::LeftOut(Reason::AttributesAtFault) => &mut self.at_fault,
-        };
-        *count = count.saturating_add(1);
+    pub(crate) fn add(&mut self, added: Added)
+        ensures { Counted self.old self.new (Some added ∷ []) }
+    {
+        match added {
+            Added::Written => grow(&mut self.written),
+            Added::LeftOut(Reason::Multicast) => grow(&mut self.multicast),
+            Added::LeftOut(Reason::TooLong) => grow(&mut self.too_long),
+            Added::LeftOut(Reason::AttributesAtFault) => grow(&mut self.at_fault),
+        }
     }
 }
 
@@ -92,15 +97,29 @@ impl LeftOut {
     }
 
     // Counts a record that is neither an index nor has routes of an IPv4 unicast prefix.
-    pub(crate) fn add(&mut self, kind: u16, subtype: u16) {
-        let count = match (kind, subtype) {
-            (TABLE_DUMP, _) => &mut self.two_octet,
-            (TABLE_DUMP_V2, RIB_IPV6_UNICAST | RIB_IPV6_MULTICAST) => &mut self.ipv6,
-            (TABLE_DUMP_V2, RIB_IPV4_MULTICAST) => &mut self.multicast,
-            (TABLE_DUMP_V2, RIB_GENERIC) => &mut self.generic,
-            (TABLE_DUMP_V2, FIRST_ADD_PATH..=LAST_ADD_PATH) => &mut self.add_path,
-            _ => &mut self.other,
-        };
-        *count = count.saturating_add(1);
+    pub(crate) fn add(&mut self, kind: u16, subtype: u16)
+        ensures two_octet { GrowsBy self.old.two_octet self.new.two_octet (one_if (is_two_octet kind subtype)) }
+        ensures ipv6 { GrowsBy self.old.ipv6 self.new.ipv6 (one_if (is_ipv6 kind subtype)) }
+        ensures multicast { GrowsBy self.old.multicast self.new.multicast (one_if (is_ipv4_multicast kind subtype)) }
+        ensures generic { GrowsBy self.old.generic self.new.generic (one_if (is_generic kind subtype)) }
+        ensures add_path { GrowsBy self.old.add_path self.new.add_path (one_if (is_add_path kind subtype)) }
+        ensures other { GrowsBy self.old.other self.new.other (one_if (is_other kind subtype)) }
+        ensures unknown_peer { self.new.unknown_peer ≡ self.old.unknown_peer }
+    {
+        match (kind, subtype) {
+            (TABLE_DUMP, _) => grow(&mut self.two_octet),
+            (TABLE_DUMP_V2, RIB_IPV6_UNICAST | RIB_IPV6_MULTICAST) => grow(&mut self.ipv6),
+            (TABLE_DUMP_V2, RIB_IPV4_MULTICAST) => grow(&mut self.multicast),
+            (TABLE_DUMP_V2, RIB_GENERIC) => grow(&mut self.generic),
+            (TABLE_DUMP_V2, FIRST_ADD_PATH..=LAST_ADD_PATH) => grow(&mut self.add_path),
+            _ => grow(&mut self.other),
+        }
     }
+}
+
+// Counts one more. Our choice: a count stays at the greatest number.
+pub(crate) fn grow(count: &mut u64)
+    ensures { GrowsBy count.old count.new 1 }
+{
+    *count = count.saturating_add(1);
 }

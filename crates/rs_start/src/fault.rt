@@ -1,6 +1,7 @@
 //! Why a table isn't read, and why the beginning of a session isn't written.
 
 ghost use Rattle.std.specs.Prelude.{◌≡◌};
+ghost use Rattle.rs_start.specs.declared.fault.RoutesFault.TheVariants.{Table};
 ghost use Rattle.rs_start.specs.declared.fault.StartFault.TheVariants.{Memory};
 
 use std::alloc::{AllocError, AllocFailed};
@@ -151,6 +152,8 @@ pub enum RoutesFault {
 }
 
 impl From<TableFault> for RoutesFault {
+    ghost from_gives = { λ fault e. e ≡ Table fault };
+
     fn from(fault: TableFault) -> RoutesFault {
         RoutesFault::Table(fault)
     }

@@ -1,17 +1,19 @@
 //! The sessions of all peers, which a table begins.
 
-ghost use Rattle.std.specs.Prelude.{◌≡◌, [], ◌∷◌, IfOk, OnOk};
+ghost use Rattle.std.specs.Prelude.{◌≡◌, [], ◌∷◌, IfErr, IfOk, OnOk};
 ghost use Rattle.rs_start.specs.Sessions.{AddsAll, AddsEntries, AddsNext, AddsRoutes, AllEnd, AllGo, EndsBy, GoesBy};
-ghost use Rattle.rs_start.specs.Sessions.{WritesTable};
+ghost use Rattle.rs_start.specs.Sessions.{EntriesNamePeer, HasFailed, NamesPeer, WritesTable};
+ghost use Rattle.rs_start.specs.Counting.{Counted, outcome_of};
 ghost use Rattle.rs_start.specs.Opening.{added_of, route_by};
 ghost use Rattle.rs_start.specs.RightFlags.{mended};
 ghost use Rattle.rs_start.specs.Table.{IsIndex};
 ghost use Rattle.rs_start.specs.TableFile.{rows_of};
 ghost use Rattle.rs_start.specs.TableReading.{ReadsIndex, record_at};
 ghost use Rattle.rs_start.specs.TableView.{entry_of};
+ghost use Rattle.rs_start.specs.declared.fault.StartFault.TheVariants as StartFault;
 ghost use Rattle.rs_start.specs.declared.part.Part.TheVariants.{Other};
 
-use crate::counts::{Counts, LeftOut};
+use crate::counts::{Counts, LeftOut, grow};
 use crate::fault::{Broken, PartFault, RoutesFault, StartFault, TableFault};
 use crate::index::{Index, read_index};
 use crate::part::{Part, TableEnd, part_by};
@@ -33,22 +35,27 @@ pub struct PeerSession<W: Write> {
 impl<W: Write + Drop> PeerSession<W> {
     // Adds an entry of the peer.
     fn add(&mut self, prefix: Prefix, section: &[u8]) -> Result<(), StartFault>
-        ensures { OnOk result (GoesBy W.taken self.old.writer self.new.writer
+        ensures goes { OnOk result (GoesBy W.taken self.old.writer self.new.writer
             (route_by (added_of prefix (mended section.now)) prefix (mended section.now))) }
+        ensures counts { OnOk result (Counted self.old.counts self.new.counts
+            (outcome_of self.old.writer prefix section.now ∷ [])) }
+        ensures failed { IfErr result (λ fault. fault ≡ StartFault.Write → HasFailed W.failures self.new.writer) }
     {
         match &mut self.writer {
             Some(writer) => {
                 let added = writer.add(prefix, section)?;
                 self.counts.add(added);
             }
-            None => self.counts.unwritten = self.counts.unwritten.saturating_add(1),
+            None => grow(&mut self.counts.unwritten),
         }
         Ok(())
     }
 
     // Writes all that waits.
     fn finish(&mut self) -> Result<(), StartFault>
-        ensures { OnOk result (EndsBy W.taken self.old.writer self.new.writer []) }
+        ensures ends { OnOk result (EndsBy W.taken self.old.writer self.new.writer []) }
+        ensures counts { self.new.counts ≡ self.old.counts }
+        ensures failed { IfErr result (λ fault. fault ≡ StartFault.Write → HasFailed W.failures self.new.writer) }
     {
         match &mut self.writer {
             Some(writer) => writer.finish(),
@@ -108,7 +115,10 @@ impl<R: Read> TableReader<R> {
     /// unicast prefixes, and entries of peers that the index does not have, are counted.
     ///
     /// Afterwards what was taken of each session says just what the table has of its peer, as the peer's session: one
-    /// announcement for each route that isn't left out, in order.
+    /// announcement for each route that isn't left out, in order. Each peer's counts have grown by what became of its
+    /// entries.
+    ///
+    /// `Write` names the peer whose session could not be written.
     pub fn write_sessions<W: Write + Drop>(
         &mut self,
         sessions: &mut [PeerSession<W>],
@@ -116,6 +126,7 @@ impl<R: Read> TableReader<R> {
     ) -> Result<TableEnd, RoutesFault>
         ensures written { IfOk result (λ end.
             WritesTable R.gives W.taken self.old self.new sessions.old sessions.new end) }
+        ensures failed { IfErr result (λ fault. NamesPeer W.failures sessions.new fault) }
     {
         let end = self.read_routes(sessions, left_out)?;
         finish_all(sessions)?;
@@ -128,7 +139,8 @@ impl<R: Read> TableReader<R> {
         sessions: &mut [PeerSession<W>],
         left_out: &mut LeftOut,
     ) -> Result<TableEnd, RoutesFault>
-        ensures { IfOk result (λ end. AddsAll R.gives W.taken self.old self.new sessions.old sessions.new end) }
+        ensures adds { IfOk result (λ end. AddsAll R.gives W.taken self.old self.new sessions.old sessions.new end) }
+        ensures failed { IfErr result (λ fault. NamesPeer W.failures sessions.new fault) }
     {
         for _record in 0..u64::MAX {
             if let Some(end) = self.add_next(sessions, left_out)? {
@@ -144,7 +156,8 @@ impl<R: Read> TableReader<R> {
         sessions: &mut [PeerSession<W>],
         left_out: &mut LeftOut,
     ) -> Result<Option<TableEnd>, RoutesFault>
-        ensures { IfOk result (λ end. AddsNext R.gives W.taken self.old self.new sessions.old sessions.new end) }
+        ensures adds { IfOk result (λ end. AddsNext R.gives W.taken self.old self.new sessions.old sessions.new end) }
+        ensures failed { IfErr result (λ fault. NamesPeer W.failures sessions.new fault) }
     {
         let Some(head) = self.next()? else {
             return Ok(Some(TableEnd::EndOfFile));
@@ -185,7 +198,8 @@ fn pass_over(
 
 // Writes all that waits of each session.
 fn finish_all<W: Write + Drop>(sessions: &mut [PeerSession<W>]) -> Result<(), RoutesFault>
-    ensures { OnOk result (AllEnd W.taken sessions.old sessions.new []) }
+    ensures ends { OnOk result (AllEnd W.taken sessions.old sessions.new []) }
+    ensures failed { IfErr result (λ fault. NamesPeer W.failures sessions.new fault) }
 {
     for place in 0..sessions.len() {
         match sessions[place].finish() {
@@ -204,7 +218,8 @@ fn add_record<W: Write + Drop>(
     sessions: &mut [PeerSession<W>],
     left_out: &mut LeftOut,
 ) -> Result<(), RoutesFault>
-    ensures { OnOk result (AddsRoutes W.taken body.now sessions.old sessions.new) }
+    ensures adds { OnOk result (AddsRoutes W.taken body.now sessions.old sessions.new) }
+    ensures failed { IfErr result (λ fault. NamesPeer W.failures sessions.new fault) }
 {
     let rib = match read_rib(body) {
         Ok(rib) => rib,
@@ -235,28 +250,29 @@ fn add_entries<W: Write + Drop>(
     sessions: &mut [PeerSession<W>],
     left_out: &mut LeftOut,
 ) -> Result<(), EntriesFault>
-    ensures { OnOk result (AddsEntries W.taken rib.now.prefix rib.now.count rib.now.entries.now []
+    ensures adds { OnOk result (AddsEntries W.taken rib.now.prefix rib.now.count rib.now.entries.now []
         sessions.old sessions.new) }
+    ensures failed { IfErr result (λ fault. EntriesNamePeer W.failures sessions.new fault) }
 {
     let entries = rib.entries;
     let mut rest = entries;
     for _place in 0..rib.count {
         let Some((entry, behind)) = split_entry(rest) else {
-            return Err(fault_at(Broken::RibCutShort, entries, rest));
+            return Err(EntriesFault::Part(fault_at(Broken::RibCutShort, entries, rest)));
         };
         add_entry(rib.prefix, entry, sessions, left_out)?;
         rest = behind;
     }
     if !rest.is_empty() {
-        return Err(fault_at(Broken::RibTooLong, entries, rest));
+        return Err(EntriesFault::Part(fault_at(Broken::RibTooLong, entries, rest)));
     }
     Ok(())
 }
 
 // A fault of entries, where this rest of them begins.
-fn fault_at(what: Broken, entries: &[u8], rest: &[u8]) -> EntriesFault {
+fn fault_at(what: Broken, entries: &[u8], rest: &[u8]) -> PartFault {
     let place = entries.len().saturating_sub(rest.len());
-    EntriesFault::Part(PartFault::at(what, place))
+    PartFault::at(what, place)
 }
 
 // Adds an entry to the session of its peer.
@@ -266,11 +282,12 @@ fn add_entry<W: Write + Drop>(
     sessions: &mut [PeerSession<W>],
     left_out: &mut LeftOut,
 ) -> Result<(), EntriesFault>
-    ensures { OnOk result (AllGo W.taken sessions.old sessions.new (rows_of prefix (entry_of entry.entry ∷ []))) }
+    ensures go { OnOk result (AllGo W.taken sessions.old sessions.new (rows_of prefix (entry_of entry.entry ∷ []))) }
+    ensures failed { IfErr result (λ fault. EntriesNamePeer W.failures sessions.new fault) }
 {
     let peer = usize::from(entry.peer);
     if peer >= sessions.len() {
-        left_out.unknown_peer = left_out.unknown_peer.saturating_add(1);
+        grow(&mut left_out.unknown_peer);
         return Ok(());
     }
     match sessions[peer].add(prefix, entry.section) {

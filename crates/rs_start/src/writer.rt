@@ -2,8 +2,9 @@
 //!
 //! Our choices: records wait in a buffer, and are written in pieces of 64 KiB or more; nothing is flushed.
 
-ghost use Rattle.std.specs.Prelude.{◌≡◌, ◌<◌, [], IfOk, IsFalse, IsTrue, OnOk};
+ghost use Rattle.std.specs.Prelude.{◌≡◌, ◌<◌, [], IfErr, IfOk, IsFalse, IsTrue, OnOk};
 ghost use Rattle.rs_start.specs.declared.added.Added.TheVariants.{Written};
+ghost use Rattle.rs_start.specs.declared.fault.StartFault.TheVariants as StartFault;
 ghost use Rattle.rs_start.specs.Opening.{IsStart, added_of, route_by};
 ghost use Rattle.rs_start.specs.RightFlags.{mended};
 ghost use Rattle.rs_start.specs.Writing.{Closes, Ends, Flushes, Goes, IsBegun};
@@ -38,7 +39,7 @@ pub struct SessionWriter<W: Write> {
 }
 
 impl<W: Write> Model for SessionWriter<W> {
-    ghost use Rattle.std.specs.Prelude.{◌<◌, IsFalse};
+    ghost use Rattle.std.specs.Prelude.{◌<◌, IsFalse, IsTrue};
     ghost use Rattle.rs_start.specs.Opening.{IsStart};
     ghost use Rattle.rs_start.specs.RightFlags.{mended};
     ghost use Rattle.rs_start.specs.Writing.{Writing};
@@ -47,7 +48,8 @@ impl<W: Write> Model for SessionWriter<W> {
 
     ghost view = { λ w. record { out = w.out; start = w.start; waiting = w.buffer.items; held = w.held } };
 
-    ghost invariant = { λ w. IsStart w.start × (IsFalse w.failed → W.failures w.out < 18446744073709551615) };
+    ghost invariant = { λ w. IsStart w.start × (IsFalse w.failed → W.failures w.out < 18446744073709551615)
+        × (IsTrue w.failed → 0 < W.failures w.out) };
 }
 
 impl<W: Write + Drop> SessionWriter<W> {
@@ -80,6 +82,7 @@ impl<W: Write + Drop> SessionWriter<W> {
         ensures added { IfOk result (λ added. added ≡ added_of prefix (mended section.now)) }
         ensures goes { IfOk result (λ added. Goes W.taken self.old self.new (route_by added prefix (mended section.now))) }
         ensures start { OnOk result (self.new.start ≡ self.old.start) }
+        ensures failed { IfErr result (λ fault. fault ≡ StartFault.Write → 0 < W.failures self.new.out) }
     {
         if has_right_flags(section) {
             return self.announce(prefix, section);
@@ -93,6 +96,7 @@ impl<W: Write + Drop> SessionWriter<W> {
         ensures added { IfOk result (λ added. added ≡ added_of prefix section.now) }
         ensures goes { IfOk result (λ added. Goes W.taken self.old self.new (route_by added prefix section.now)) }
         ensures start { OnOk result (self.new.start ≡ self.old.start) }
+        ensures failed { IfErr result (λ fault. fault ≡ StartFault.Write → 0 < W.failures self.new.out) }
     {
         if self.join(prefix, section)? {
             return Ok(Added::Written);
@@ -111,6 +115,7 @@ impl<W: Write + Drop> SessionWriter<W> {
     /// nothing else. The faults are those of `add`.
     pub fn finish(&mut self) -> Result<(), StartFault>
         ensures whole { OnOk result (Ends W.taken self.old self.new) }
+        ensures failed { IfErr result (λ fault. fault ≡ StartFault.Write → 0 < W.failures self.new.out) }
     {
         a_session_begins_with_the_routes_of_the_table();
         self.start_fits();
@@ -134,6 +139,7 @@ impl<W: Write + Drop> SessionWriter<W> {
         ensures stays { IfOk result (λ joined. IsFalse joined → self.new ≡ self.old) }
         ensures start { OnOk result (self.new.start ≡ self.old.start) }
         ensures out { OnOk result (self.new.out ≡ self.old.out) }
+        ensures failed { IfErr result (λ fault. fault ≡ StartFault.Write → 0 < W.failures self.new.out) }
     {
         Ok(self.held.join(prefix, section)?)
     }
@@ -143,6 +149,7 @@ impl<W: Write + Drop> SessionWriter<W> {
         ensures goes { OnOk result (Goes W.taken self.old self.new []) }
         ensures start { OnOk result (self.new.start ≡ self.old.start) }
         ensures held { OnOk result (self.new.held ≡ []) }
+        ensures failed { IfErr result (λ fault. fault ≡ StartFault.Write → 0 < W.failures self.new.out) }
     {
         self.end_update()?;
         if self.buffer.len() >= PIECE_LEN {
@@ -154,6 +161,7 @@ impl<W: Write + Drop> SessionWriter<W> {
     // Ends the UPDATE that is being filled: its record waits.
     fn end_update(&mut self) -> Result<(), StartFault>
         ensures closes { OnOk result (Closes self.old self.new) }
+        ensures failed { IfErr result (λ fault. fault ≡ StartFault.Write → 0 < W.failures self.new.out) }
     {
         self.held.spell(&mut self.buffer, &self.start)?;
         self.held = Held::nothing(self.alloc);
@@ -170,6 +178,7 @@ impl<W: Write + Drop> SessionWriter<W> {
     // Writes the records that wait.
     fn flush(&mut self) -> Result<(), StartFault>
         ensures flushed { OnOk result (Flushes W.taken self.old self.new) }
+        ensures failed { IfErr result (λ fault. fault ≡ StartFault.Write → 0 < W.failures self.new.out) }
     {
         if self.failed {
             return Err(StartFault::Write);

@@ -10,4 +10,4 @@ pub loop-place-preserved : goal.loop-place-preserved
 loop-place-preserved g c =
     entries_more g.W.Write.taken c.args.rib.now.prefix c.loop-place._place c.args.rib.now.entries.now c.loop-place.rest.now
     c.in-Some.behind.now (entry_of c.in-Some.entry) c.args.sessions.now c.loop-place.sessions c.add_entry.new.sessions
-    c.loop-place.invariant (sym c.in-Some.ensures.value) c.in_ok-add_entry.ensures
+    c.loop-place.invariant (sym c.in-Some.ensures.value) c.in_ok-add_entry.ensures.go

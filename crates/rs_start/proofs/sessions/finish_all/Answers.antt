@@ -1,4 +1,4 @@
-use Rattle.std.proofs.Common.{◌<◌, ◌∙◌, [], length, arith}
+use Rattle.std.proofs.Common.{◌≡◌, ◌<◌, ◌∙◌, [], length, arith, get_or, subst, sym}
 use Rattle.std.proofs.lemmas.List.{length-set}
 use Rattle.rs_start.specs.Sessions.{EndsBy}
 use Rattle.rs_types.proofs.ReplacingLemmas.{done-also, to_do-also}
@@ -16,8 +16,8 @@ loop-place-preserved g c =
     let within : place < length now = omega arith in
     record {
       count = length-set now place new ∙ so_far.count;
-      done = done-also (λ before after. EndsBy taken before.writer after.writer [])
-          old now place next new so_far.count within so_far.done so_far.to_do c.in-Ok.ensures;
-      to_do = to_do-also (λ before after. EndsBy taken before.writer after.writer [])
+      done = done-also (λ before after. EndsBy taken before.writer after.writer [] × (after.counts ≡ before.counts))
+          old now place next new so_far.count within so_far.done so_far.to_do (c.in-Ok.ensures.ends, c.in-Ok.ensures.counts);
+      to_do = to_do-also (λ before after. EndsBy taken before.writer after.writer [] × (after.counts ≡ before.counts))
           old now place next new so_far.count within so_far.to_do;
     }

@@ -6,8 +6,8 @@ use Rattle.rs_start.proofs.FileLemmas.{adds_one}
 use Rattle.rs_start.proofs.SessionLemmas.{all_nothing}
 use Rattle.rs_start.proofs.table_reader.TableReader.add_next.Goals as goal
 
-pub returns-in-Other : goal.returns-in-Other
-returns-in-Other g c =
+pub returns-in-Other-clause-adds : goal.returns-in-Other-clause-adds
+returns-in-Other-clause-adds g c =
     let gives = g.R.Read.gives in
     let old = c.args.self.now in
     let new = c.next.new.self in
@@ -19,8 +19,8 @@ returns-in-Other g c =
     adds_one gives g.W.Write.taken old new sessions sessions r [] takes (subst (λ part. HasBy part r.body []) (sym other) refl)
     (all_nothing g.W.Write.taken sessions)
 
-pub returns-in-Index : goal.returns-in-Index
-returns-in-Index g c =
+pub returns-in-Index-clause-adds : goal.returns-in-Index-clause-adds
+returns-in-Index-clause-adds g c =
     let gives = g.R.Read.gives in
     let old = c.args.self.now in
     let new = c.next.new.self in

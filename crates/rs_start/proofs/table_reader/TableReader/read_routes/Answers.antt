@@ -11,12 +11,12 @@ loop-record-preserved g c =
     adds_then g.R.Read.gives g.W.Write.taken c.args.self.now c.loop-record.self c.add_next.new.self c.args.sessions.now
     c.loop-record.sessions c.add_next.new.sessions c.loop-record.invariant
     (subst (λ end. AddsNext g.R.Read.gives g.W.Write.taken c.loop-record.self c.add_next.new.self c.loop-record.sessions
-    c.add_next.new.sessions end) c.in_default.is c.in_ok-end.ensures)
+    c.add_next.new.sessions end) c.in_default.is c.in_ok-end.ensures.adds)
 
-pub returns-in-Some : goal.returns-in-Some
-returns-in-Some g c =
+pub returns-in-Some-clause-adds : goal.returns-in-Some-clause-adds
+returns-in-Some-clause-adds g c =
     let ends = subst (λ end. AddsNext g.R.Read.gives g.W.Write.taken c.loop-record.self c.add_next.new.self c.loop-record.sessions
-    c.add_next.new.sessions end) c.in-Some.is c.in_ok-end.ensures in
+    c.add_next.new.sessions end) c.in-Some.is c.in_ok-end.ensures.adds in
     record {
       now = c.loop-record.self;
       adds = subst (λ news. Adds g.R.Read.gives g.W.Write.taken c.args.self.now c.loop-record.self c.args.sessions.now news) (sym ends.1)
