@@ -10,8 +10,8 @@ use crate::bars::bar_length;
 // Fewer steps than these lie on an axis.
 pub(crate) const MOST_TICKS: u32 = 8;
 
-// The steps between marks in seconds: 1, 2, 5, 10, 15 and 30 seconds and minutes, 1, 2, 3, 6 and 12 hours, 1, 2, 7, 14,
-// 30 and 90 days, and 1, 2 and 5 years of 365 days.
+// The steps between marks, in seconds: 1, 2, 5, 10, 15 and 30 seconds and minutes, and 1, 2, 3, 6 and 12 hours. Then 1,
+// 2, 7, 14, 30 and 90 days, and 1, 2 and 5 years of 365 days.
 const STEPS: [u32; 26] = [
     1,
     2,

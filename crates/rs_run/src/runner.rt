@@ -39,10 +39,10 @@ const LINES_LEN: usize = 256;
 /// `readers` gives the recorded file of each peer, in the order of the peers. If a record of a file closes the
 /// session, little more than that record is read.
 ///
-/// `Read` names the first peer whose file can't be read to its end or has 2^50 octets or more. It is not answered if
-/// a record closes the session before. No dump is kept, and nothing of the report is written.
+/// `Read` names a peer whose file can't be read to its end or has 2^50 octets or more, while its session is open. The
+/// files of the peers before it can be read. No dump is kept, and nothing of the report is written.
 ///
-/// `Unsettled` names the first peer of which not all changes are known to have been applied. No dump is kept, and
+/// `Unsettled` names a peer of the plan of which not all changes are known to have been applied. No dump is kept, and
 /// nothing of the report is written.
 ///
 /// `Dump` is answered if the outlet failed, or the writer of a dump. It is also answered if a table has more than

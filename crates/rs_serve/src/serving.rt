@@ -37,8 +37,8 @@ use std::thread::Threads;
 /// - `Capacity` if the capacity isn't from 1 to 65,536.
 /// - `Shards` if the number of shards isn't from 1 to 16.
 /// - `Memory` if memory or a thread is refused.
-/// - `Read` of the least peer with a failed read.
-/// - `Unsettled` of the least peer of which perhaps not all that was sent was received.
+/// - `Read` of a peer whose reader may fail. The readers of the peers before it may give their files.
+/// - `Unsettled` of a peer of which perhaps not all that was sent was received.
 ///
 /// All threads are joined before any answer.
 pub fn serve_by<T: Threads + Wait + Sync, R: Read + Send + Drop, G: Gate>(

@@ -37,7 +37,7 @@ const NAME_AT: usize = 6;
 
 const COUNT_LEN: usize = 2;
 
-// Reads the body of a PEER_INDEX_TABLE record. A fault is told with how many octets of the body stand before it.
+// Reads the body of a PEER_INDEX_TABLE record. A fault comes with how many octets of the body stand before it.
 pub(crate) fn read_index(alloc: Global, body: &[u8]) -> Result<Index, PartFault>
     ensures { IfOk result (λ index. IsIndex body.now index.collector index.peers.items) }
 {

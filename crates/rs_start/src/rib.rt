@@ -44,7 +44,7 @@ const SECTION_AT: usize = 8;
 
 const SECTION_LEN_AT: usize = 6;
 
-// Reads the body of the record up to its entries. A fault is told with how many octets of the body stand before it.
+// Reads the body of the record up to its entries. A fault comes with how many octets of the body stand before it.
 pub(crate) fn read_rib(body: &[u8]) -> Result<Rib<'_>, PartFault>
     ensures prefix { IfOk result (λ rib. rib.prefix ≡ rib_prefix body.now) }
     ensures short { IfOk result (λ rib. big_number 1 (drop 4 body.now) ≤ 32) }

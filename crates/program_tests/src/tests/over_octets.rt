@@ -59,10 +59,12 @@ fn a_run_over_octets_gives_their_dumps_and_their_report(rt: HostRuntime) -> Resu
         return Err(Fail::new("the run fails"));
     };
     let kept = ran.dumps.kept();
-    let are_dumps = kept
-        .iter()
-        .zip(&DUMPS)
-        .all(|(dump, (name, expected))| is_dump(alloc, dump, name, expected));
-    assert_eq!(rt; (kept.len(), are_dumps, ran.report.as_slice()), (2, true, REPORT.as_bytes()));
+    let are_dumps = kept.iter().zip(&DUMPS).all(|(dump, (name, expected))| is_dump(
+        alloc, dump, name, expected,
+    ));
+    assert_eq!(rt;
+        (kept.len(), are_dumps, ran.report.as_slice()),
+        (2, true, REPORT.as_bytes())
+    );
     Ok(())
 }
