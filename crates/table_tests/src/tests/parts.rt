@@ -6,9 +6,9 @@ ghost use Rattle.rs_session.specs.Change.{change_of, is_close};
 ghost use Rattle.table_tests.specs.Parts.{IsOnLength, IsPart};
 
 use super::changes::change;
-use super::check_rows;
 use super::exchanges::exchange;
 use super::refusals::all_tables;
+use super::{TWO_PEERS, check, check_rows};
 use rs_choice::Exchange;
 use rs_session::{Body, Word};
 use rs_table::Tables;
@@ -94,4 +94,19 @@ merged: a withdrawal and a loss | a 100 10.0.0.0/8 plain; b 101 10.0.0.0/8 plain
 #[test]
 fn parts_are_made_one(rt: HostRuntime) -> Result<(), Fail> {
     check_rows(&rt, rt.alloc(), MERGED)
+}
+
+// Changes in three parts, and the tables that are made of them.
+const IN_PARTS: &str = "a 108 10.0.0.0/8 plain; a 109 20.0.0.0/8 plain; b 116 10.0.0.0/16 plain; \
+    b 124 10.0.0.0/24 plain; b 117 198.51.0.0/16 plain";
+
+const OF_PARTS: &str = "a[10.0.0.0/16 b 116, 10.0.0.0/24 b 124, 198.51.0.0/16 b 117] \
+    b[10.0.0.0/8 a 108, 20.0.0.0/8 a 109]";
+
+// One allocation is refused in a run at most, so the parts become one when it is tried again.
+#[test]
+fn parts_are_refused_memory_or_become_the_right_tables(rt: HostRuntime) -> Result<(), Fail> {
+    let alloc = rt.alloc();
+    let found = merged(alloc, TWO_PEERS, IN_PARTS).or_else(|| merged(alloc, TWO_PEERS, IN_PARTS));
+    check(found, OF_PARTS, ("merged", IN_PARTS))
 }
