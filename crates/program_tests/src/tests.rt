@@ -1,7 +1,7 @@
-//! What no clause says: that calls succeed, texts, what command lines ask for, how the program ends where it fails, rows
-//! of answers, what configurations set up, runs whose outlet or report fails, and runs whose dumps are written beside
-//! each other. Whole files and the dumps that they give stand in the folder `cases`, command lines and configurations
-//! that are refused in `cases_refused`: the built program is run on both.
+//! What no clause says: that calls succeed, and texts. What command lines ask for, what configurations set up, and how
+//! the program ends if it fails. Rows of answers. Runs whose outlet or report fails, and runs whose dumps are written
+//! one with another. Whole files and the dumps that they give stand in the folder `cases`, command lines and
+//! configurations that are refused in `cases_refused`: the built program is run on both.
 
 mod command_lines;
 mod outlet_ahead;

@@ -34,16 +34,16 @@ pub fn run_over_octets<T: Threads + Wait + Sync>(
     rt: &T,
     alloc: Global,
     setup: &Setup,
-    files: Vec<&[u8]>,
+    files: &[&[u8]],
     options: &Options,
 ) -> Result<RunOverOctets, RunFault>
-    requires one_for_each { length files.items ≡ length setup.now.plan.value.peers }
+    requires one_for_each { length files.now ≡ length setup.now.plan.value.peers }
     requires ring { (1 ≤ options.now.ring) × (options.now.ring ≤ 65536) }
     requires shards { (1 ≤ options.now.shards) × (options.now.shards ≤ 16) }
     ensures { IfOk result (HasDumpsAndReportOf options.now.errors setup.now.plan.value options.now.time
-        (map (λ file. file.now) files.items)) }
+        (map (λ file. file.now) files.now)) }
 {
-    let readers = readers_of(alloc, &files)?;
+    let readers = readers_of(alloc, files)?;
     let mut dumps = MemoryOutlet::new(alloc, OutletLimits::none());
     let mut report = MemoryWriter::new(alloc, Limits::none());
     match run(rt, alloc, setup, readers, options, &mut dumps, &mut report) {

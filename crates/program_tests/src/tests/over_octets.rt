@@ -1,6 +1,6 @@
 //! A run over octets in memory: the smallest exchange in which each client gets a route.
 
-use super::runs::{is_dump, options};
+use super::runs::{are_kept, options};
 use rs_run::run_over_octets;
 use rs_setup::read_setup;
 use spelled_in_hex::octets;
@@ -49,21 +49,19 @@ const DUMPS: [(&str, &str); 2] = [
 fn a_run_over_octets_gives_their_dumps_and_their_report(rt: HostRuntime) -> Result<(), Fail> {
     let alloc = rt.alloc();
     let setup = read_setup(alloc, EXCHANGE.as_bytes())?;
-    if setup.plan.count() != FILES.len() {
+    if setup.plan.count() != 2 {
         return Err(Fail::new("another number of peers"));
     }
     let [of_a, of_b] = FILES;
     let (of_a, of_b) = (octets(alloc, &[of_a])?, octets(alloc, &[of_b])?);
-    let files = Vec::from_array(alloc, [of_a.as_slice(), of_b.as_slice()])?;
-    let Ok(ran) = run_over_octets(&rt, alloc, &setup, files, &options(alloc, 1, 1)?) else {
+    let files = [of_a.as_slice(), of_b.as_slice()];
+    let Ok(ran) = run_over_octets(&rt, alloc, &setup, &files, &options(alloc, 1, 1)?) else {
         return Err(Fail::new("the run fails"));
     };
     let kept = ran.dumps.kept();
-    let are_dumps = kept.iter().zip(&DUMPS).all(|(dump, (name, expected))| is_dump(
-        alloc, dump, name, expected,
-    ));
+    let are_kept = are_kept(alloc, kept, &DUMPS);
     assert_eq!(rt;
-        (kept.len(), are_dumps, ran.report.as_slice()),
+        (kept.len(), are_kept, ran.report.as_slice()),
         (2, true, REPORT.as_bytes())
     );
     Ok(())

@@ -197,17 +197,17 @@ fn run_in<T: AllocGlobal + Threads + Wait + Sync>(rt: &T, manner: &Manner) -> Re
     })
 }
 
-/// Whether a dump is kept under this name, with the octets that are spelled so.
-pub fn is_dump(alloc: Global, dump: &Kept, name: &str, expected: &str) -> bool {
+// Whether a dump is kept under this name, with the octets that are spelled so.
+fn is_dump(alloc: Global, dump: &Kept, name: &str, expected: &str) -> bool {
     match octets(alloc, &[expected]) {
         Ok(expected) => dump.name.as_str() == name && dump.octets == expected,
         Err(_) => false,
     }
 }
 
-// Whether the first dumps are kept.
-fn are_kept(alloc: Global, kept: &[Kept]) -> bool {
-    for (dump, (name, expected)) in kept.iter().zip(&DUMPS) {
+/// Whether the first of these dumps are kept, each under its name.
+pub fn are_kept(alloc: Global, kept: &[Kept], dumps: &[(&str, &str)]) -> bool {
+    for (dump, (name, expected)) in kept.iter().zip(dumps) {
         if !is_dump(alloc, dump, name, expected) {
             return false;
         }
@@ -233,7 +233,7 @@ fn check_run<T: AllocGlobal + Threads + Wait + Sync>(
     let (kept, report) = (ran.outlet.kept(), ran.report.as_slice());
     let found = (ran.answer, kept.len(), report.len());
     let is_beginning = REPORT.as_bytes().starts_with(report);
-    if found == wanted && is_beginning && are_kept(rt.alloc(), kept) {
+    if found == wanted && is_beginning && are_kept(rt.alloc(), kept, &DUMPS) {
         return Ok(());
     }
     Err(Fail::new(format_args!("{numbers:?}: {found:?}")))

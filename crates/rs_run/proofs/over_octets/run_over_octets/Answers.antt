@@ -1,7 +1,6 @@
 -- The files that were read say what the octets say.
-use Rattle.std.proofs.Common.{◌≡◌, ◌∙◌, ap, Bor, List, ℕ, map}
+use Rattle.std.proofs.Common.{◌≡◌, ◌∙◌, ap, map}
 use Rattle.rs_mrt.specs.Memory as memory
-use Rattle.rs_mrt.specs.MemoryReading.{MemoryReading}
 use Rattle.rs_outlet.specs.Outlet as outlet
 use Rattle.rs_serve.specs.AtHand.{whole_of}
 use Rattle.rs_run.proofs.OctetLemmas.{octets-dumped, octets-reported}
@@ -12,12 +11,11 @@ returns-in-Ok g c =
     let errors = c.args.options.now.errors in
     let plan = c.args.setup.now.plan.value in
     let readers = c.in_ok-readers.readers.items in
-    let are : readers ≡ map (λ file. whole_of file.now) c.args.files.items =
-    c.in_ok-readers.ensures.files ∙ ap (map (λ (file : Bor (List ℕ)). whole_of file.now)) c.deref.ensures.value in
+    let are : readers ≡ map (λ file. whole_of file.now) c.args.files.now = c.in_ok-readers.ensures.files in
     let read = c.in-Ok.ensures.answer.over_files in
     record {
-      dumps = octets-dumped errors plan c.args.files.items readers are read.0 read.1 c.args.options.now.time
+      dumps = octets-dumped errors plan c.args.files.now readers are read.0 read.1 c.args.options.now.time
           c.new.result.kept c.run.new.outlet.kept (ap (λ (o : outlet.InMemory). o.kept) c.new.ensures) read.2.0;
-      report = c.into_octets.ensures ∙ octets-reported errors plan c.args.files.items readers are read.0 read.1
+      report = c.into_octets.ensures ∙ octets-reported errors plan c.args.files.now readers are read.0 read.1
           c.new-2.result.taken c.run.new.report.taken (ap (λ (w : memory.InMemory). w.taken) c.new-2.ensures) read.2.1;
     }
