@@ -15,7 +15,7 @@ returns-in-Ok g c =
     let read = c.in-Ok.ensures.answer.over_files in
     record {
       dumps = octets-dumped errors plan c.args.files.now readers are read.0 read.1 c.args.options.now.time
-          c.new.result.kept c.run.new.outlet.kept (ap (λ (o : outlet.InMemory). o.kept) c.new.ensures) read.2.0;
+          c.new-dumps.result.kept c.run.new.outlet.kept (ap (λ (o : outlet.InMemory). o.kept) c.new-dumps.ensures) read.2.0;
       report = c.into_octets.ensures ∙ octets-reported errors plan c.args.files.now readers are read.0 read.1
-          c.new-2.result.taken c.run.new.report.taken (ap (λ (w : memory.InMemory). w.taken) c.new-2.ensures) read.2.1;
+          c.new-report.result.taken c.run.new.report.taken (ap (λ (w : memory.InMemory). w.taken) c.new-report.ensures) read.2.1;
     }

@@ -7,7 +7,6 @@ use Rattle.rs_outlet.specs.declared.run_fault.RunFault.TheVariants.{Memory}
 use Rattle.rs_run.proofs.RefusalLemmas.{read-stop-answers}
 use Rattle.rs_run.proofs.RunLemmas.{done-answers, if-answers, keep-stop-answers, length-ends, report-failed-answers}
 use Rattle.rs_run.specs.Report.{report_of}
-use Rattle.rs_table.specs.Content.{TablesContent}
 use Rattle.std.specs.Io.KnownBytes.{Appends}
 use Rattle.rs_mrt.specs.Stream.{AppendsBeginning}
 use Rattle.rs_run.proofs.runner.run_if.Goals as goal
