@@ -1,5 +1,5 @@
--- How entries of peers and records of a table are counted. Which records there are says RFC 6396, section 4.3, and RFC 8050,
--- section 4; all else is our choice.
+-- How entries of peers and records of a table are counted. The Types and Subtypes of records are those of RFC 6396,
+-- sections 4.2 and 4.3, and of RFC 8050, section 4; all else is our choice.
 use Rattle.std.specs.Prelude.{◌≡◌, ℕ, ◌+◌, ◌^◌, ◌<◌, ◌==◌, Bool, true, false, not, ◌&&◌, ◌||◌, nat_le, if◌then◌else◌}
 use Rattle.std.specs.Prelude.{List, length, filter, map, Option, Some, None}
 use Rattle.rs_update.specs.IpPrefix.{IpPrefix}
@@ -38,7 +38,7 @@ number_of None = 4
 abbrev pub how_many : Option Added → List (Option Added) → ℕ
 how_many outcome outcomes = length (filter (λ other. number_of other == number_of outcome) outcomes)
 
--- Entries were counted: each count grows by the number of those that came to what it counts, and so no other one does.
+-- Outcomes were counted: each count grows by the number of outcomes that it is for. So a count without one stays.
 pub record Counted (old new : Counts) (outcomes : List (Option Added)) : Type 0 where
   pub written : GrowsBy old.written new.written (how_many (Some Written) outcomes)
   pub multicast : GrowsBy old.multicast new.multicast (how_many (Some (LeftOut Multicast)) outcomes)

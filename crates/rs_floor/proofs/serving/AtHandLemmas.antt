@@ -9,7 +9,7 @@ use Rattle.rs_mrt.specs.MemoryReading.{MemoryReading, Comes}
 use Rattle.rs_mrt.specs.Reader.{ReadEnd, FileEnds, ReadFails}
 use Rattle.rs_mrt.specs.RecordReading.{read_limit}
 use Rattle.rs_session.specs.FileChanges.{changes_in_by}
-use Rattle.rs_session.specs.Given.{IsGiven, MayFail}
+use Rattle.rs_session.specs.Given.{MayFail}
 use Rattle.rs_session.specs.declared.peer.PeerId.{PeerId}
 use Rattle.rs_update.specs.declared.errors.Errors.{Errors}
 use Rattle.rs_serve.specs.Identity.{id_of}

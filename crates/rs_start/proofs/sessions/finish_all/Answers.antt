@@ -1,4 +1,4 @@
-use Rattle.std.proofs.Common.{◌≡◌, ◌<◌, ◌∙◌, [], length, arith, get_or, subst, sym}
+use Rattle.std.proofs.Common.{◌≡◌, ◌<◌, ◌∙◌, [], length, arith}
 use Rattle.std.proofs.lemmas.List.{length-set}
 use Rattle.rs_start.specs.Sessions.{EndsBy}
 use Rattle.rs_types.proofs.ReplacingLemmas.{done-also, to_do-also}
