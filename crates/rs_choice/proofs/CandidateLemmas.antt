@@ -28,12 +28,12 @@ may_get-from : (plan : Plan) (client : ℕ) (sent : SentRoute) → is_eligible p
     is_sent_to plan client sent ≡ true → MayGet plan client sent
 may_get-from plan client sent eligible permitted =
     let parts = and_parts (not (client == sent.peer)) (option_map_or
-    (λ receiver. option_map_or (λ sender. is_permitted_from plan.local receiver sender sent.attributes)
+    (λ receiver. option_map_or (λ sender. is_permitted_from plan receiver sender sent.attributes)
     (slice_get plan.peers sent.peer) false) (slice_get plan.peers client) false) permitted in
     let receiver = found_there (λ (receiver : Peer). option_map_or
-    (λ sender. is_permitted_from plan.local receiver sender sent.attributes) (slice_get plan.peers sent.peer) false)
+    (λ sender. is_permitted_from plan receiver sender sent.attributes) (slice_get plan.peers sent.peer) false)
     (slice_get plan.peers client) parts.1 in
-    let sender = found_there (λ (sender : Peer). is_permitted_from plan.local receiver.0 sender sent.attributes)
+    let sender = found_there (λ (sender : Peer). is_permitted_from plan receiver.0 sender sent.attributes)
     (slice_get plan.peers sent.peer) receiver.2 in
     record {
       receiver = receiver.0;

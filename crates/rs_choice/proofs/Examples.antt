@@ -1,7 +1,7 @@
 -- Worked examples of the definitions, each computed: what holds beside what must not.
 --
 -- The exchange: the server has AS 64500 and 192.0.2.1 in 192.0.2.0/24; peers a, b, c and d have AS 64501 to 64504 and 192.0.2.11 to .14.
-use Rattle.std.proofs.Common.{◌≡◌, refl, ℕ, true, false, List, [], ◌∷◌, Option, Some, None}
+use Rattle.std.proofs.Common.{◌≡◌, refl, ℕ, true, false, List, [], ◌∷◌, ◌++◌, Option, Some, None}
 use Rattle.std.specs.Prelude.{codes, replicate}
 use Rattle.rs_types.specs.declared.values.Origin.TheVariants.{Igp, Egp}
 use Rattle.rs_types.specs.PathAttributes.{PathAttributes, AsSet, AsSequence}
@@ -11,7 +11,9 @@ use Rattle.rs_choice.specs.declared.fault.PlanFault.TheVariants.{NoPeer, TooMany
 use Rattle.rs_choice.specs.Plan.{Peer, Plan, plan_fault, whole_tests, is_name}
 use Rattle.rs_types.specs.FirstFault.{first_fault}
 use Rattle.rs_choice.specs.Eligibility.{is_eligible, is_inside}
-use Rattle.rs_choice.specs.Policy.{is_permitted, permits_by_communities}
+use Rattle.byteorder.specs.Endian.{big_bytes}
+use Rattle.rs_choice.specs.LargeCommunity.{has_large_community, large_communities_in}
+use Rattle.rs_choice.specs.Policy.{is_permitted, may_refuse, permits_by_communities}
 use Rattle.rs_choice.specs.Decision.{SentRoute, standing_of, beats, unbeaten, remaining, choice, place_of_choice}
 
 abbrev server : Local
@@ -36,7 +38,7 @@ abbrev d : Peer
 d = peer_named (codes "d") 64504 0xC000020E
 
 abbrev plan : Plan
-plan = record { local = server; peers = a ∷ b ∷ c ∷ d ∷ [] }
+plan = record { local = server; peers = a ∷ b ∷ c ∷ d ∷ []; large_communities = false }
 
 abbrev route : List ℕ → ℕ → PathAttributes
 route path next_hop =
@@ -72,17 +74,17 @@ server_as_next_hop = refl
 next_hop_elsewhere : is_eligible plan 0 (route (64501 ∷ []) 0xC6336401) ≡ false
 next_hop_elsewhere = refl
 
-next_hop_elsewhere_without_subnet : is_eligible (record { local = no_subnet; peers = a ∷ [] }) 0 (route (64501 ∷ []) 0xC6336401) ≡ true
+next_hop_elsewhere_without_subnet : is_eligible (record { local = no_subnet; peers = a ∷ []; large_communities = false }) 0 (route (64501 ∷ []) 0xC6336401) ≡ true
 next_hop_elsewhere_without_subnet = refl
 
 next_hop_of_another_in_subnet : is_eligible plan 0 (route (64501 ∷ []) 0xC0000214) ≡ true
 next_hop_of_another_in_subnet = refl
 
-next_hop_of_a_sender_outside : is_eligible (record { local = server; peers = peer_named (codes "a") 64501 0xC6336401 ∷ [] }) 0
+next_hop_of_a_sender_outside : is_eligible (record { local = server; peers = peer_named (codes "a") 64501 0xC6336401 ∷ []; large_communities = false }) 0
     (route (64501 ∷ []) 0xC6336401) ≡ true
 next_hop_of_a_sender_outside = refl
 
-next_hop_of_server_and_sender : is_eligible (record { local = server; peers = peer_named (codes "a") 64501 0xC0000201 ∷ [] }) 0
+next_hop_of_server_and_sender : is_eligible (record { local = server; peers = peer_named (codes "a") 64501 0xC0000201 ∷ []; large_communities = false }) 0
     (route (64501 ∷ []) 0xC0000201) ≡ false
 next_hop_of_server_and_sender = refl
 
@@ -126,14 +128,114 @@ own_route = refl
 unknown_client : is_permitted plan 4 0 (route (64501 ∷ []) 0xC000020B) ≡ false
 unknown_client = refl
 
-large_as_refused : permits_by_communities 64500 70000 (Some (record { partial = false; values = 64500 ∷ [] })) ≡ false
+large_as_refused : permits_by_communities plan 70000 (with_communities (64500 ∷ [])) ≡ false
 large_as_refused = refl
 
-large_as_not_permitted : permits_by_communities 64500 70000 (Some (record { partial = false; values = 64500 ∷ 4227142000 ∷ [] })) ≡ false
+large_as_not_permitted : permits_by_communities plan 70000 (with_communities (64500 ∷ 4227142000 ∷ [])) ≡ false
 large_as_not_permitted = refl
 
+-- the same with large communities, to b, of AS 64502, and to e, of AS 4200000001
+abbrev e : Peer
+e = peer_named (codes "e") 4200000001 0xC000020F
+
+abbrev counting : Plan
+counting = record { local = server; peers = a ∷ b ∷ e ∷ []; large_communities = true }
+
+abbrev not_counting : Plan
+not_counting = record counting { large_communities = false }
+
+abbrev large : ℕ → ℕ → ℕ → List ℕ
+large global first second = big_bytes 4 global ++ (big_bytes 4 first ++ big_bytes 4 second)
+
+abbrev with_both : List ℕ → List ℕ → PathAttributes
+with_both values octets = record (with_communities values) { others = record { kind = 32; value = octets } ∷ [] }
+
+abbrev with_large : List ℕ → PathAttributes
+with_large octets = record (route (64501 ∷ []) 0xC000020B) { others = record { kind = 32; value = octets } ∷ [] }
+
+large_octets : large_communities_in (0 ∷ 0 ∷ 251 ∷ 244 ∷ 0 ∷ 0 ∷ 0 ∷ 1 ∷ 250 ∷ 86 ∷ 234 ∷ 1 ∷ [])
+    ≡ record { global_admin = 64500; first = 1; second = 4200000001 } ∷ []
+large_octets = refl
+
+two_large : large_communities_in (large 64500 0 64502 ++ large 1 2 3)
+    ≡ record { global_admin = 64500; first = 0; second = 64502 } ∷ record { global_admin = 1; first = 2; second = 3 } ∷ []
+two_large = refl
+
+no_large : large_communities_in [] ≡ []
+no_large = refl
+
+one_octet_too_many : large_communities_in (large 64500 0 64502 ++ 0 ∷ []) ≡ []
+one_octet_too_many = refl
+
+of_another_type : has_large_community (record (route (64501 ∷ []) 0xC000020B) { others = record { kind = 33; value = large 64500 0 64502 } ∷ [] })
+    64500 0 64502 ≡ false
+of_another_type = refl
+
+large_refused_to_b : is_permitted counting 1 0 (with_large (large 64500 0 64502)) ≡ false
+large_refused_to_b = refl
+
+large_refused_to_e : is_permitted counting 2 0 (with_large (large 64500 0 4200000001)) ≡ false
+large_refused_to_e = refl
+
+large_not_refused_to_b : is_permitted counting 1 0 (with_large (large 64500 0 4200000001)) ≡ true
+large_not_refused_to_b = refl
+
+-- the low 16 bits of 4200000001 are 59905
+by_low_bits : is_permitted counting 2 0 (with_large (large 64500 0 59905)) ≡ true
+by_low_bits = refl
+
+of_another_server : is_permitted counting 1 0 (with_large (large 64501 0 64502)) ≡ true
+of_another_server = refl
+
+large_refused_to_all : is_permitted counting 2 0 (with_large (large 64500 0 0)) ≡ false
+large_refused_to_all = refl
+
+large_refused_to_all_but_e : is_permitted counting 2 0 (with_large (large 64500 0 0 ++ large 64500 1 4200000001)) ≡ true
+large_refused_to_all_but_e = refl
+
+large_refused_to_all_but_e_at_b : is_permitted counting 1 0 (with_large (large 64500 0 0 ++ large 64500 1 4200000001)) ≡ false
+large_refused_to_all_but_e_at_b = refl
+
+large_refused_and_permitted : is_permitted counting 2 0 (with_large (large 64500 1 4200000001 ++ large 64500 0 4200000001)) ≡ false
+large_refused_and_permitted = refl
+
+permitted_to_all_is_nothing : is_permitted counting 1 0 (with_large (large 64500 0 0 ++ large 64500 1 0)) ≡ false
+permitted_to_all_is_nothing = refl
+
+-- a large community beside a community
+large_permits_beside_a_refusal_to_all : is_permitted counting 2 0 (with_both (64500 ∷ []) (large 64500 1 4200000001)) ≡ true
+large_permits_beside_a_refusal_to_all = refl
+
+refused_beside_a_large_permit : is_permitted counting 1 0 (with_both (64502 ∷ []) (large 64500 1 64502)) ≡ false
+refused_beside_a_large_permit = refl
+
+permitted_beside_a_large_refusal : is_permitted counting 1 0 (with_both (4227136502 ∷ []) (large 64500 0 64502)) ≡ false
+permitted_beside_a_large_refusal = refl
+
+permitted_beside_a_large_refusal_to_all : is_permitted counting 1 0 (with_both (4227136502 ∷ []) (large 64500 0 0)) ≡ true
+permitted_beside_a_large_refusal_to_all = refl
+
+neither_named : is_permitted counting 1 0 (with_both (64503 ∷ []) (large 64500 1 64503)) ≡ true
+neither_named = refl
+
+-- without the key they say nothing
+large_uncounted : is_permitted not_counting 1 0 (with_large (large 64500 0 64502)) ≡ true
+large_uncounted = refl
+
+large_permit_uncounted : is_permitted not_counting 1 0 (with_both (64500 ∷ []) (large 64500 1 64502)) ≡ false
+large_permit_uncounted = refl
+
+may_refuse_by_large : may_refuse counting (with_large (large 64500 0 7)) ≡ true
+may_refuse_by_large = refl
+
+may_not_refuse : may_refuse counting (with_large (large 64500 1 64502 ++ large 64501 0 64502)) ≡ false
+may_not_refuse = refl
+
+may_not_refuse_uncounted : may_refuse not_counting (with_large (large 64500 0 7)) ≡ false
+may_not_refuse_uncounted = refl
+
 abbrev choosy : Plan
-choosy = record { local = server; peers = a ∷ record b { refuse_from = codes "b" ∷ codes "a" ∷ codes "a" ∷ [] } ∷ c ∷ [] }
+choosy = record { local = server; peers = a ∷ record b { refuse_from = codes "b" ∷ codes "a" ∷ codes "a" ∷ [] } ∷ c ∷ []; large_communities = false }
 
 refused_by_name : is_permitted choosy 1 0 (with_communities (4227136502 ∷ [])) ≡ false
 refused_by_name = refl
@@ -150,6 +252,7 @@ med_plan = record {
   local = server;
   peers = record (peer_named (codes "a") 64501 0xC000020B) { id = 1 } ∷ record (peer_named (codes "b") 64501 0xC000020C) { id = 9 }
       ∷ record (peer_named (codes "c") 64502 0xC000020D) { id = 5 } ∷ [];
+  large_communities = false;
 }
 
 abbrev from_a : SentRoute
@@ -228,6 +331,7 @@ tie_plan = record {
   local = server;
   peers = record (peer_named (codes "a") 64501 0xC000020B) { id = 0xC0000209 }
       ∷ record (peer_named (codes "b") 64501 0xC000020C) { id = 0xC0000209 } ∷ c ∷ [];
+  large_communities = false;
 }
 
 abbrev tie_of : ℕ → SentRoute
@@ -289,6 +393,7 @@ abbrev one_as : Plan
 one_as = record {
   local = server;
   peers = record (peer_named (codes "a") 64501 0xC000020B) { id = 9 } ∷ record (peer_named (codes "b") 64501 0xC000020C) { id = 1 } ∷ [];
+  large_communities = false;
 }
 
 abbrev med_of : ℕ → Option ℕ → SentRoute
@@ -304,7 +409,7 @@ missing_is_zero = refl
 
 -- preference goes before path length, and path length before origin
 abbrev preferring : Plan
-preferring = record { local = server; peers = a ∷ record b { preference = 200 } ∷ [] }
+preferring = record { local = server; peers = a ∷ record b { preference = 200 } ∷ []; large_communities = false }
 
 abbrev of_origin : SentRoute
 of_origin = record { peer = 0; time = 0; attributes = record (route (64501 ∷ 65010 ∷ []) 0xC000020B) { origin = Egp } }

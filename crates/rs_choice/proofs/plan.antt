@@ -2,3 +2,4 @@
 pub mod PlanLemmas
 pub mod PlanLaws
 pub mod PolicyLemmas
+pub mod PolicyLaws

@@ -31,7 +31,7 @@ pub record MayGet (plan : Plan) (client : ℕ) (sent : SentRoute) : Type 0 where
   pub sender_is : slice_get plan.peers sent.peer ≡ Some sender
   pub of_another : client ≢ sent.peer
   pub eligible : IsTrue (is_eligible_from plan.local sender sent.attributes)
-  pub permitted : IsTrue (is_permitted_from plan.local receiver sender sent.attributes)
+  pub permitted : IsTrue (is_permitted_from plan receiver sender sent.attributes)
 
 -- the best path of a client on a prefix: the choice among its candidates
 abbrev pub chosen_for : Plan → ℕ → List SentRoute → Option SentRoute

@@ -5,7 +5,11 @@ use Rattle.rs_choice.specs.Plan.{Plan, peer_of, plan_fault}
 use Rattle.rs_choice.specs.Refusal.{refusals_of}
 
 abbrev pub plan_of : Inside → Plan
-plan_of fields = record { local = fields.local; peers = map peer_of fields.peers.items }
+plan_of fields = record {
+  local = fields.local;
+  peers = map peer_of fields.peers.items;
+  large_communities = fields.large_communities;
+}
 
 -- the plan has no fault, and the stored refusals are those of the plan
 pub record IsFaultless (fields : Inside) : Type 0 where

@@ -1,5 +1,5 @@
 -- Laws of the decision process, of export policy and of the faults of a plan.
-use Rattle.std.specs.Prelude.{◌≡◌, ◌<◌, ◌↔◌, ◌⊎◌, ℕ, Bool, true, IsTrue, IsFalse, List, [], ◌∷◌, ◌++◌, filter, None}
+use Rattle.std.specs.Prelude.{◌≡◌, ◌≢◌, ◌<◌, ◌↔◌, ◌⊎◌, ℕ, Bool, true, false, if◌then◌else◌, IsTrue, IsFalse, List, [], ◌∷◌, ◌++◌, filter, None}
 use Rattle.std.specs.Prelude.{Some, MatchOption, slice_get}
 use Rattle.std.specs.List.{Contains}
 use Rattle.rs_choice.specs.declared.plan.Local.{Local}
@@ -9,7 +9,11 @@ use Rattle.rs_choice.specs.Clients.{MayGet, best_peer_for, candidates_among, is_
 use Rattle.rs_choice.specs.Comparison.{IsAhead, Outdoes}
 use Rattle.rs_choice.specs.Eligibility.{is_eligible}
 use Rattle.rs_choice.specs.Plan.{Peer, Plan, Test, plan_fault}
+use Rattle.rs_types.specs.Community.{has_community_in}
 use Rattle.rs_types.specs.FirstFault.{first_fault}
+use Rattle.rs_types.specs.PathAttributes.{PathAttributes}
+use Rattle.rs_choice.specs.LargeCommunity.{has_large_community}
+use Rattle.rs_choice.specs.Refusal.{refuses}
 use Rattle.rs_choice.specs.Policy.{is_permitted}
 use Rattle.rs_choice.specs.Decision.{SentRoute, beats, choice, decision_steps, remaining, standing_of, unbeaten}
 
@@ -66,6 +70,32 @@ OpenPolicySharesChoice =
     ((route : SentRoute) → Contains set route → IsTrue (is_permitted plan client route.peer route.attributes)) →
     choice (standing_of plan) (filter (λ route. is_permitted plan client route.peer route.attributes) set)
     ≡ choice (standing_of plan) set
+
+-- Where large communities don't count, the communities of RFC 1997 decide alone, after the sender's name. No client of
+-- an AS above 65,535 is named by them.
+abbrev pub UncountedAreNoMatter : Type 0
+UncountedAreNoMatter =
+    (plan : Plan) (client number : ℕ) (receiver sender : Peer) (attributes : PathAttributes)
+    → plan.large_communities ≡ false → client ≢ number
+    → slice_get plan.peers client ≡ Some receiver → slice_get plan.peers number ≡ Some sender →
+    is_permitted plan client number attributes
+    ≡ (if refuses receiver sender then false
+    else if has_community_in attributes.communities 0 receiver.asn then false
+    else if has_community_in attributes.communities plan.local.asn receiver.asn then true
+    else if has_community_in attributes.communities 0 plan.local.asn then false
+    else true)
+
+-- two routes have the same communities and the same large communities, in any order and however often
+pub record HaveSameCommunities (one other : PathAttributes) : Type 0 where
+  pub same : (high low : ℕ) → has_community_in one.communities high low ≡ has_community_in other.communities high low
+  pub same_large : (global first second : ℕ) →
+      has_large_community one global first second ≡ has_large_community other global first second
+
+-- such routes of a peer are permitted to the same clients
+abbrev pub PolicyIgnoresOrder : Type 0
+PolicyIgnoresOrder =
+    (plan : Plan) (client number : ℕ) (one other : PathAttributes) → HaveSameCommunities one other →
+    is_permitted plan client number one ≡ is_permitted plan client number other
 
 -- the routes that are left when the step by MED begins
 abbrev pub reaching_med : Plan → List SentRoute → List SentRoute

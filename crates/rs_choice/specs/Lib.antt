@@ -1,6 +1,7 @@
 -- What the standards say, and export policy:
 pub mod Plan  -- the server and its peers
 pub mod Eligibility  -- which routes may be candidates
+pub mod LargeCommunity  -- large communities by their numbers
 pub mod Policy  -- which routes a client may get
 pub mod Decision  -- the six steps and the choice
 pub mod Clients  -- what each client gets
@@ -8,6 +9,7 @@ pub mod Comparison  -- two candidates by several steps at once
 pub mod Laws  -- what holds of all of these
 pub mod Naturality  -- what the choice does not look at
 -- How the code decides:
+pub mod PolicyCase  -- the case of export policy that communities of one kind name
 pub mod Candidacy  -- what is asked of a route alone
 pub mod Held  -- routes as they are held for decisions
 pub mod Entrants  -- what takes part in a decision

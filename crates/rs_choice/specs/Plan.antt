@@ -21,10 +21,11 @@ pub record Peer : Type 0 where
   pub preference : ℕ
   pub refuse_from : List (List ℕ)
 
--- the server and its peers; a peer's number is its place, from 0
+-- the server and its peers, and whether large communities count; a peer's number is its place, from 0
 pub record Plan : Type 0 where
   pub local : Local
   pub peers : List Peer
+  pub large_communities : Bool
 
 abbrev pub peer_of : PeerSpec → Peer
 peer_of spec = record {

@@ -1,30 +1,34 @@
 -- Export policy: which routes a client may get (RFC 7947, section 2.3). The five cases and their order are our
--- choice, over the communities of RFC 1997.
-use Rattle.std.specs.Prelude.{ℕ, ◌==◌, Bool, true, false, not, ◌&&◌, if◌then◌else◌, Option, slice_get}
+-- choice, over the communities of RFC 1997 and the large communities of RFC 8092.
+use Rattle.std.specs.Prelude.{ℕ, ◌==◌, Bool, true, false, not, ◌&&◌, ◌||◌, if◌then◌else◌, slice_get}
 use Rattle.std.specs.Option.{option_map_or}
-use Rattle.rs_types.specs.PathAttributes.{PathAttributes, CommunityList}
-use Rattle.rs_types.specs.Community.{has_community_in}
-use Rattle.rs_choice.specs.declared.plan.Local.{Local}
+use Rattle.rs_types.specs.PathAttributes.{PathAttributes}
+use Rattle.rs_types.specs.Community.{has_community_in, has_community_of_in}
+use Rattle.rs_choice.specs.LargeCommunity.{has_large_community, has_large_community_of}
 use Rattle.rs_choice.specs.Plan.{Peer, Plan}
 use Rattle.rs_choice.specs.Refusal.{refuses}
 
--- The four cases by communities, of which the first that applies counts:
--- - (0, client's AS): refused to this client.
--- - (server's AS, client's AS): permitted to this client.
--- - (0, server's AS): refused to all clients.
+-- a route has the server's large community with these two parts, if the plan counts large communities
+abbrev pub has_large : Plan → PathAttributes → ℕ → ℕ → Bool
+has_large plan attributes first second =
+    plan.large_communities && has_large_community attributes plan.local.asn first second
+
+-- The four cases by communities, of which the first that applies counts. Server and client have the ASes s and x:
+-- - 0:x, or the large community s:0:x: refused to this client.
+-- - s:x, or s:1:x: permitted to this client.
+-- - 0:s, or s:0:0: refused to all clients.
 -- - Otherwise: permitted.
-abbrev pub permits_by_communities : ℕ → ℕ → Option CommunityList → Bool
-permits_by_communities local_asn client_asn communities =
-    if has_community_in communities 0 client_asn then false
-    else if has_community_in communities local_asn client_asn then true
-    else if has_community_in communities 0 local_asn then false
+abbrev pub permits_by_communities : Plan → ℕ → PathAttributes → Bool
+permits_by_communities plan asn attributes =
+    if has_community_in attributes.communities 0 asn || has_large plan attributes 0 asn then false
+    else if has_community_in attributes.communities plan.local.asn asn || has_large plan attributes 1 asn then true
+    else if has_community_in attributes.communities 0 plan.local.asn || has_large plan attributes 0 0 then false
     else true
 
 -- a client that refuses the sender gets none of its routes; otherwise the communities decide
-abbrev pub is_permitted_from : Local → Peer → Peer → PathAttributes → Bool
-is_permitted_from local client sender attributes =
-    if refuses client sender then false
-    else permits_by_communities local.asn client.asn attributes.communities
+abbrev pub is_permitted_from : Plan → Peer → Peer → PathAttributes → Bool
+is_permitted_from plan client sender attributes =
+    if refuses client sender then false else permits_by_communities plan client.asn attributes
 
 -- Whether export policy permits a route, by the numbers of client and sender. A client never gets its own route, nor
 -- a route of an unknown peer.
@@ -32,5 +36,12 @@ abbrev pub is_permitted : Plan → ℕ → ℕ → PathAttributes → Bool
 is_permitted plan client number attributes =
     not (client == number)
     && option_map_or
-    (λ receiver. option_map_or (λ sender. is_permitted_from plan.local receiver sender attributes)
+    (λ receiver. option_map_or (λ sender. is_permitted_from plan receiver sender attributes)
     (slice_get plan.peers number) false) (slice_get plan.peers client) false
+
+-- Whether communities may refuse a route to some client. Only the community (0, AS) does, for some AS, or the server's
+-- large community whose first part is 0.
+abbrev pub may_refuse : Plan → PathAttributes → Bool
+may_refuse plan attributes =
+    has_community_of_in attributes.communities 0
+    || (plan.large_communities && has_large_community_of attributes plan.local.asn 0)

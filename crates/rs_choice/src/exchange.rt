@@ -1,6 +1,6 @@
 //! An exchange: a plan without a fault.
 
-ghost use Rattle.std.specs.Prelude.{◌≡◌, ◌<◌, ◌≤◌, IfErr, IfOk, OnOk, None, Some, length, map, slice_get};
+ghost use Rattle.std.specs.Prelude.{◌≡◌, ◌<◌, ◌≤◌, IfErr, IfOk, OnOk, None, Some, false, length, map, slice_get};
 ghost use Rattle.rs_choice.specs.Plan.{peer_of, plan_fault, Refuses};
 ghost use Rattle.rs_choice.specs.Checks.{refuses_spec};
 ghost use Rattle.rs_choice.specs.Refusal.{IsRefusal, refusals_of};
@@ -18,6 +18,8 @@ pub struct Exchange {
     peers: Vec<PeerSpec>,
     // For each client, for each peer: whether the client refuses routes from that peer.
     refusals: Vec<Vec<bool>>,
+    // Whether export policy counts large communities.
+    large_communities: bool,
 }
 
 impl Model for Exchange {
@@ -34,9 +36,10 @@ impl Model for Exchange {
 
 impl Exchange {
     /// The exchange of a plan. A plan with a fault is refused by its first one; `Memory` is answered only of
-    /// a plan without a fault. Refused, the peers are dropped.
+    /// a plan without a fault. Refused, the peers are dropped. Large communities don't count.
     pub fn new(alloc: Global, local: Local, peers: Vec<PeerSpec>) -> Result<Exchange, PlanFault>
-        ensures plan { IfOk result (λ exchange. exchange ≡ record { local = local; peers = map peer_of peers.items }) }
+        ensures plan { IfOk result (λ exchange. exchange
+            ≡ record { local = local; peers = map peer_of peers.items; large_communities = false }) }
         ensures faultless { OnOk result (plan_fault local (map peer_of peers.items) ≡ None) }
         ensures refused { IfErr result (λ fault. Refuses fault (plan_fault local (map peer_of peers.items))) }
     {
@@ -48,7 +51,24 @@ impl Exchange {
             local,
             peers,
             refusals,
+            large_communities: false,
         })
+    }
+
+    /// The same exchange, in which export policy counts large communities (RFC 8092) or doesn't.
+    pub fn with_large_communities(self, counted: bool) -> Exchange
+        ensures { result ≡ record self { large_communities = counted } }
+    {
+        let mut exchange = self;
+        exchange.large_communities = counted;
+        exchange
+    }
+
+    /// Whether export policy counts large communities (RFC 8092).
+    pub fn counts_large_communities(&self) -> bool
+        ensures { result ≡ self.now.large_communities }
+    {
+        self.large_communities
     }
 
     /// How many peers there are, 1 to 256.

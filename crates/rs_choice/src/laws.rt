@@ -3,7 +3,8 @@
 ghost use Rattle.rs_choice.specs.Laws.{BehindIsNoMatter, CandidatesMayBeGot, ChoiceIgnoresOrder, ChoiceIsMember};
 ghost use Rattle.rs_choice.specs.Laws.{ChoiceIsUnbeaten};
 ghost use Rattle.rs_choice.specs.Laws.{ChoiceStays, FaultIsFirst, MedDecidesWithinNeighbour, OpenPolicySharesChoice};
-ghost use Rattle.rs_choice.specs.Laws.{OthersAreNoMatter, OutdoneIsNoMatter, PeersHaveOwnAddresses, RemovedIsNoMatter};
+ghost use Rattle.rs_choice.specs.Laws.{OthersAreNoMatter, OutdoneIsNoMatter, PeersHaveOwnAddresses, PolicyIgnoresOrder};
+ghost use Rattle.rs_choice.specs.Laws.{RemovedIsNoMatter, UncountedAreNoMatter};
 
 /// The candidates of a client for a prefix are the eligible routes of other peers that export policy permits to it
 /// (RFC 4271, section 9.1.2; RFC 7947, section 2.3).
@@ -51,6 +52,17 @@ pub fn those_behind_are_no_matter()
     ensures behind { BehindIsNoMatter }
     ensures outdone { OutdoneIsNoMatter }
     ensures client { OthersAreNoMatter }
+{}
+
+/// If large communities don't count, the communities of RFC 1997 decide alone to which clients a route is permitted,
+/// after the sender's name.
+pub fn uncounted_large_communities_are_no_matter()
+    ensures { UncountedAreNoMatter }
+{}
+
+/// Neither the order of a route's communities and large communities nor repeated ones matter to export policy.
+pub fn policy_ignores_the_order_of_communities()
+    ensures { PolicyIgnoresOrder }
 {}
 
 /// The fault of a plan is that of the first test that finds one, in the order of the tests.

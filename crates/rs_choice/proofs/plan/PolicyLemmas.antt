@@ -1,7 +1,7 @@
 -- Refusals by name, as an exchange keeps them, and the policy at two known peers.
--- For `refusals` and `refuses` of exchange.rt, and `permits` of policy.rt.
+-- For `refusals` and `refuses` of exchange.rt, and `permits` and `permits_by_communities` of policy.rt.
 use mathlib.Core.List.{map-map}
-use Rattle.std.proofs.Common.{◌≡◌, ◌∙◌, sym, ap, arith, ℕ, ◌<◌, ◌/◌, ◌*◌, ◌+◌, ◌==◌, Bool, true, false, not, ◌&&◌, ◌≢◌, inl, inr, List, []}
+use Rattle.std.proofs.Common.{◌≡◌, ◌∙◌, sym, ap, arith, ℕ, ◌<◌, ◌/◌, ◌*◌, ◌+◌, ◌==◌, Bool, true, false, not, ◌&&◌, ◌||◌, ◌≢◌, inl, inr, List, []}
 use Rattle.std.proofs.Common.{◌∷◌, length, map, get_or, Option, None, Some, refl}
 use Rattle.std.specs.Prelude.{slice_get, string_bytes, nat_lt, if◌then◌else◌}
 use Rattle.std.specs.List.{list_any}
@@ -19,6 +19,7 @@ use Rattle.rs_choice.specs.Checks.{refuses_spec}
 use Rattle.rs_choice.specs.Plan.{Peer, Plan, peer_of}
 use Rattle.rs_choice.specs.Refusal.{refuses, refusals_of, IsRefusal}
 use Rattle.rs_choice.specs.Policy.{is_permitted, is_permitted_from, permits_by_communities}
+use Rattle.rs_choice.specs.PolicyCase.{first_case, permits_both}
 use Rattle.rs_choice.proofs.Members.{some_at}
 use Rattle.rs_choice.proofs.PermitLemmas.{is_permitted-known}
 
@@ -60,7 +61,7 @@ answer_of_row f rows peers client sender row answer agree at_row at_answer one o
 pub is_permitted-not-refused : (plan : Plan) (client number : ℕ) (attributes : PathAttributes) (one : Peer) (refused answer : Bool) →
     slice_get plan.peers client ≡ Some one → number < length plan.peers → client ≢ number → IsRefusal plan.peers client number refused
     → refused ≡ false →
-    answer ≡ permits_by_communities plan.local.asn one.asn attributes.communities → answer ≡ is_permitted plan client number attributes
+    answer ≡ permits_by_communities plan one.asn attributes → answer ≡ is_permitted plan client number attributes
 is_permitted-not-refused plan client number attributes one refused answer at_one known differ refusal refuses_not at_answer =
     let other = some_at plan.peers number known in
     let says : refuses one other.0 ≡ false = sym (refusal one other.0 at_one other.1) ∙ refuses_not in
@@ -81,3 +82,21 @@ refusals_of-map peers =
     row client =
         map-map (refuses (peer_of client)) peer_of peers
         ∙ (λ i. map (λ sender. refuses-map client sender i) peers)
+
+-- the earlier of two cases permits a route as the first case does that either names
+pub permits_both-first : (refuses permits all refuses' permits' all' : Bool) →
+    permits_both (first_case refuses permits all) (first_case refuses' permits' all')
+    ≡ (if refuses || refuses' then false else if permits || permits' then true else if all || all' then false else true)
+permits_both-first true permits all refuses' permits' all' = refl
+permits_both-first false true all true permits' all' = refl
+permits_both-first false true all false true all' = refl
+permits_both-first false true all false false true = refl
+permits_both-first false true all false false false = refl
+permits_both-first false false true true permits' all' = refl
+permits_both-first false false true false true all' = refl
+permits_both-first false false true false false true = refl
+permits_both-first false false true false false false = refl
+permits_both-first false false false true permits' all' = refl
+permits_both-first false false false false true all' = refl
+permits_both-first false false false false false true = refl
+permits_both-first false false false false false false = refl
