@@ -74,17 +74,18 @@ server_as_next_hop = refl
 next_hop_elsewhere : is_eligible plan 0 (route (64501 ∷ []) 0xC6336401) ≡ false
 next_hop_elsewhere = refl
 
-next_hop_elsewhere_without_subnet : is_eligible (record { local = no_subnet; peers = a ∷ []; large_communities = false }) 0 (route (64501 ∷ []) 0xC6336401) ≡ true
+next_hop_elsewhere_without_subnet : is_eligible (record { local = no_subnet; peers = a ∷ []; large_communities = false }) 0
+    (route (64501 ∷ []) 0xC6336401) ≡ true
 next_hop_elsewhere_without_subnet = refl
 
 next_hop_of_another_in_subnet : is_eligible plan 0 (route (64501 ∷ []) 0xC0000214) ≡ true
 next_hop_of_another_in_subnet = refl
 
-next_hop_of_a_sender_outside : is_eligible (record { local = server; peers = peer_named (codes "a") 64501 0xC6336401 ∷ []; large_communities = false }) 0
+next_hop_of_a_sender_outside : is_eligible (record plan { peers = peer_named (codes "a") 64501 0xC6336401 ∷ [] }) 0
     (route (64501 ∷ []) 0xC6336401) ≡ true
 next_hop_of_a_sender_outside = refl
 
-next_hop_of_server_and_sender : is_eligible (record { local = server; peers = peer_named (codes "a") 64501 0xC0000201 ∷ []; large_communities = false }) 0
+next_hop_of_server_and_sender : is_eligible (record plan { peers = peer_named (codes "a") 64501 0xC0000201 ∷ [] }) 0
     (route (64501 ∷ []) 0xC0000201) ≡ false
 next_hop_of_server_and_sender = refl
 
@@ -167,7 +168,7 @@ no_large = refl
 one_octet_too_many : large_communities_in (large 64500 0 64502 ++ 0 ∷ []) ≡ []
 one_octet_too_many = refl
 
-of_another_type : has_large_community (record (route (64501 ∷ []) 0xC000020B) { others = record { kind = 33; value = large 64500 0 64502 } ∷ [] })
+of_another_type : has_large_community (record (with_large []) { others = record { kind = 33; value = large 64500 0 64502 } ∷ [] })
     64500 0 64502 ≡ false
 of_another_type = refl
 
@@ -235,7 +236,7 @@ may_not_refuse_uncounted : may_refuse not_counting (with_large (large 64500 0 7)
 may_not_refuse_uncounted = refl
 
 abbrev choosy : Plan
-choosy = record { local = server; peers = a ∷ record b { refuse_from = codes "b" ∷ codes "a" ∷ codes "a" ∷ [] } ∷ c ∷ []; large_communities = false }
+choosy = record plan { peers = a ∷ record b { refuse_from = codes "b" ∷ codes "a" ∷ codes "a" ∷ [] } ∷ c ∷ [] }
 
 refused_by_name : is_permitted choosy 1 0 (with_communities (4227136502 ∷ [])) ≡ false
 refused_by_name = refl

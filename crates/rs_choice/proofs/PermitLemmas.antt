@@ -1,7 +1,7 @@
 -- The policy at two known peers, and routes that no community may refuse, which are refused by their senders' names alone.
 -- For `permits` and `permits_other` of exchange.rt, and for `permits` of rs_survey.
-use Rattle.std.proofs.Common.{◌≡◌, ◌∙◌, sym, arith, ℕ, ◌<◌, ◌/◌, ◌*◌, ◌+◌, ◌==◌, Bool, true, false, not, ◌&&◌, ◌||◌, ◌≢◌, inl, inr, List, []}
-use Rattle.std.proofs.Common.{◌∷◌, length, Option, None, Some, refl}
+use Rattle.std.proofs.Common.{◌≡◌, ◌∙◌, sym, arith, ℕ, ◌<◌, ◌/◌, ◌*◌, ◌+◌, ◌==◌, Bool, true, false, not, ◌&&◌, ◌||◌, ◌≢◌, inl, inr, List}
+use Rattle.std.proofs.Common.{[], ◌∷◌, length, Option, None, Some, refl}
 use Rattle.std.specs.Prelude.{slice_get, nat_lt, if◌then◌else◌}
 use Rattle.std.specs.List.{list_any}
 use Rattle.std.proofs.lemmas.Bool.{and_left, and_right, cases_Bool, ltb-true, ne_eqb, or_parts}

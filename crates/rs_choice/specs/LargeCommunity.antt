@@ -27,7 +27,8 @@ large_community_of octets =
 -- 3). A value of another length has none (our choice).
 abbrev pub large_communities_in : List ℕ → List LargeCommunity
 large_communities_in value =
-    if length value % LARGE_LEN == 0 then map large_community_of (first_chunks LARGE_LEN (length value / LARGE_LEN) value)
+    if length value % LARGE_LEN == 0
+    then map large_community_of (first_chunks LARGE_LEN (length value / LARGE_LEN) value)
     else []
 
 -- the value of LARGE_COMMUNITY, which is among the unrecognized attributes; no octets if it was not received

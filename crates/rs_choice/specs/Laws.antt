@@ -1,5 +1,6 @@
 -- Laws of the decision process, of export policy and of the faults of a plan.
-use Rattle.std.specs.Prelude.{◌≡◌, ◌≢◌, ◌<◌, ◌↔◌, ◌⊎◌, ℕ, Bool, true, false, if◌then◌else◌, IsTrue, IsFalse, List, [], ◌∷◌, ◌++◌, filter, None}
+use Rattle.std.specs.Prelude.{◌≡◌, ◌≢◌, ◌<◌, ◌↔◌, ◌⊎◌, ℕ, Bool, true, false, if◌then◌else◌, IsTrue, IsFalse, List}
+use Rattle.std.specs.Prelude.{[], ◌∷◌, ◌++◌, filter, None}
 use Rattle.std.specs.Prelude.{Some, MatchOption, slice_get}
 use Rattle.std.specs.List.{Contains}
 use Rattle.rs_choice.specs.declared.plan.Local.{Local}
@@ -71,8 +72,7 @@ OpenPolicySharesChoice =
     choice (standing_of plan) (filter (λ route. is_permitted plan client route.peer route.attributes) set)
     ≡ choice (standing_of plan) set
 
--- Where large communities don't count, the communities of RFC 1997 decide alone, after the sender's name. No client of
--- an AS above 65,535 is named by them.
+-- If large communities don't count, refusals by name and the communities of RFC 1997 decide alone
 abbrev pub UncountedAreNoMatter : Type 0
 UncountedAreNoMatter =
     (plan : Plan) (client number : ℕ) (receiver sender : Peer) (attributes : PathAttributes)

@@ -8,12 +8,11 @@ use Rattle.rs_choice.specs.LargeCommunity.{has_large_community, has_large_commun
 use Rattle.rs_choice.specs.Plan.{Peer, Plan}
 use Rattle.rs_choice.specs.Refusal.{refuses}
 
--- a route has the server's large community with these two parts, if the plan counts large communities
+-- the plan counts large communities, and the route has the large community s:kind:asn, s being the server's AS
 abbrev pub has_large : Plan → PathAttributes → ℕ → ℕ → Bool
-has_large plan attributes first second =
-    plan.large_communities && has_large_community attributes plan.local.asn first second
+has_large plan attributes kind asn = plan.large_communities && has_large_community attributes plan.local.asn kind asn
 
--- The four cases by communities, of which the first that applies counts. Server and client have the ASes s and x:
+-- The four cases by communities, of which the first that applies counts. The server's AS is s, and the client's is x:
 -- - 0:x, or the large community s:0:x: refused to this client.
 -- - s:x, or s:1:x: permitted to this client.
 -- - 0:s, or s:0:0: refused to all clients.
@@ -39,8 +38,8 @@ is_permitted plan client number attributes =
     (λ receiver. option_map_or (λ sender. is_permitted_from plan receiver sender attributes)
     (slice_get plan.peers number) false) (slice_get plan.peers client) false
 
--- Whether communities may refuse a route to some client. Only the community (0, AS) does, for some AS, or the server's
--- large community whose first part is 0.
+-- Whether some community of a route may refuse it to a client: one whose high half is 0, or a large community s:0 of
+-- the server's AS s, if the plan counts large communities.
 abbrev pub may_refuse : Plan → PathAttributes → Bool
 may_refuse plan attributes =
     has_community_of_in attributes.communities 0

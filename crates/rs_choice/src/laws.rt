@@ -54,8 +54,8 @@ pub fn those_behind_are_no_matter()
     ensures client { OthersAreNoMatter }
 {}
 
-/// If large communities don't count, the communities of RFC 1997 decide alone to which clients a route is permitted,
-/// after the sender's name.
+/// If large communities don't count, refusals by name and the communities of RFC 1997 decide alone which routes a
+/// client may get.
 pub fn uncounted_large_communities_are_no_matter()
     ensures { UncountedAreNoMatter }
 {}

@@ -2,13 +2,14 @@
 //! a client gets.
 //!
 //! Standards: RFC 4271, section 9.1 (eligible routes, decision process); RFC 7947, section 2.3 (a decision
-//! for each client, after that client's export policy); RFC 1997 and RFC 8092 (communities and large communities).
+//! for each client, after that client's export policy). Communities are those of RFC 1997, and large communities those
+//! of RFC 8092.
 //!
 //! Reading order:
 //! - Plans: `plan` (the server and its peers), `fault` and `checks` (which plans are refused), `exchange` (a plan
 //!   that is not).
-//! - One decision: `eligibility`, `large_community`, `policy` and `candidate` (what takes part in it), and `step`. Then
-//!   `entrants` and `neighbour_groups` (who stands for each neighbour AS), and `decision` (the pass that decides).
+//! - One decision: `eligibility`, `large_community`, `policy` and `candidate` (what takes part in it), and `step`.
+//!   Then `entrants` and `neighbour_groups` (who stands for each neighbour AS), and `decision` (the pass that decides).
 //! - The decisions of all clients: `candidacy`, `held_route`, `held_order`, `places` and `clients`.
 //! - The same decision for lists of any length: `scan`.
 //! - What holds of the definitions that the contracts cite: `laws`.

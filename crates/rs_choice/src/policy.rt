@@ -18,12 +18,13 @@ use rs_types::{Attributes, Numbers};
 // The numbers that half a community can hold (RFC 1997).
 const HALF: u32 = 65536;
 
-// The first part of a large community, which says what it is about (our choice): 0 refuses the route to the AS of the
-// second part, 1 permits it to that AS, and with the second part 0 a 0 refuses it to all.
+// The first part of the server's large communities (our choice). 0 refuses a route to the AS that is the second part,
+// and 1 permits it to that AS.
 const REFUSES: u32 = 0;
 
 const PERMITS: u32 = 1;
 
+// The second part of a large community that refuses a route to all clients.
 const ALL: u32 = 0;
 
 // What communities say of a route for one client: the first of the four cases that applies.

@@ -1,8 +1,8 @@
 -- Refusals by name, as an exchange keeps them, and the policy at two known peers.
 -- For `refusals` and `refuses` of exchange.rt, and `permits` and `permits_by_communities` of policy.rt.
 use mathlib.Core.List.{map-map}
-use Rattle.std.proofs.Common.{◌≡◌, ◌∙◌, sym, ap, arith, ℕ, ◌<◌, ◌/◌, ◌*◌, ◌+◌, ◌==◌, Bool, true, false, not, ◌&&◌, ◌||◌, ◌≢◌, inl, inr, List, []}
-use Rattle.std.proofs.Common.{◌∷◌, length, map, get_or, Option, None, Some, refl}
+use Rattle.std.proofs.Common.{◌≡◌, ◌∙◌, sym, ap, arith, ℕ, ◌<◌, ◌/◌, ◌*◌, ◌+◌, ◌==◌, Bool, true, false, not, ◌&&◌, ◌||◌, ◌≢◌, inl, inr, List}
+use Rattle.std.proofs.Common.{[], ◌∷◌, length, map, get_or, Option, None, Some, refl}
 use Rattle.std.specs.Prelude.{slice_get, string_bytes, nat_lt, if◌then◌else◌}
 use Rattle.std.specs.List.{list_any}
 use Rattle.std.specs.Str.{bytes_eq}
