@@ -15,8 +15,7 @@ has_large plan attributes kind asn = plan.large_communities && has_large_communi
 -- The four cases by communities, of which the first that applies counts. The server's AS is s, and the client's is x:
 -- - 0:x, or the large community s:0:x: refused to this client.
 -- - s:x, or s:1:x: permitted to this client.
--- - 0:s, or s:0:0: refused to all clients.
--- - Otherwise: permitted.
+-- - 0:s, or s:0:0: refused to all clients. Otherwise: permitted.
 abbrev pub permits_by_communities : Plan → ℕ → PathAttributes → Bool
 permits_by_communities plan asn attributes =
     if has_community_in attributes.communities 0 asn || has_large plan attributes 0 asn then false

@@ -1,12 +1,11 @@
 -- Laws of export policy: for `uncounted_large_communities_are_no_matter` and `policy_ignores_the_order_of_communities`
 -- of laws.rt.
-use Rattle.std.proofs.Common.{◌≡◌, ◌∙◌, ℕ, Bool, true, false, not, ◌&&◌, ◌||◌, ◌==◌, Some, refl}
+use Rattle.std.proofs.Common.{◌≡◌, ◌∙◌, Bool, true, false, not, ◌&&◌, ◌||◌, ◌==◌, refl}
 use Rattle.std.specs.Prelude.{slice_get, if◌then◌else◌}
 use Rattle.std.specs.Option.{option_map_or}
 use Rattle.std.proofs.lemmas.Bool.{ne_eqb}
 use Rattle.rs_types.specs.Community.{has_community_in}
 use Rattle.rs_types.specs.PathAttributes.{PathAttributes}
-use Rattle.rs_choice.specs.LargeCommunity.{has_large_community}
 use Rattle.rs_choice.specs.Laws.{HaveSameCommunities, PolicyIgnoresOrder, UncountedAreNoMatter}
 use Rattle.rs_choice.specs.Plan.{Peer, Plan}
 use Rattle.rs_choice.specs.Policy.{is_permitted_from}

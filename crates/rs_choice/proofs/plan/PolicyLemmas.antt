@@ -1,24 +1,21 @@
 -- Refusals by name, as an exchange keeps them, and the policy at two known peers.
 -- For `refusals` and `refuses` of exchange.rt, and `permits` and `permits_by_communities` of policy.rt.
 use mathlib.Core.List.{map-map}
-use Rattle.std.proofs.Common.{◌≡◌, ◌∙◌, sym, ap, arith, ℕ, ◌<◌, ◌/◌, ◌*◌, ◌+◌, ◌==◌, Bool, true, false, not, ◌&&◌, ◌||◌, ◌≢◌, inl, inr, List}
-use Rattle.std.proofs.Common.{[], ◌∷◌, length, map, get_or, Option, None, Some, refl}
-use Rattle.std.specs.Prelude.{slice_get, string_bytes, nat_lt, if◌then◌else◌}
-use Rattle.std.specs.List.{list_any}
+use Rattle.std.proofs.Common.{◌≡◌, ◌∙◌, sym, ap, ℕ, ◌<◌, Bool, true, false, ◌||◌, ◌≢◌, List}
+use Rattle.std.proofs.Common.{length, map, get_or, Some, refl}
+use Rattle.std.specs.Prelude.{slice_get, string_bytes, if◌then◌else◌}
 use Rattle.std.specs.Str.{bytes_eq}
 use Rattle.std.specs.Option.{option_map}
 use Rattle.std.proofs.lemmas.Option.{slice_get-map, get_or_from_slice_get, slice_get_read, slice_get_within}
 use Rattle.std.proofs.lemmas.List.{length-map}
-use Rattle.std.proofs.lemmas.Bool.{and_left, and_right, cases_Bool, ltb-true, ne_eqb, or_parts}
-use Rattle.std.proofs.lemmas.Bool.Decides.{nat_tests}
-use Rattle.rs_types.specs.PathAttributes.{PathAttributes, CommunityList}
-use Rattle.rs_types.specs.Community.{has_community_in, has_community_of_in, has_value_of}
+use Rattle.std.proofs.lemmas.Bool.{ne_eqb}
+use Rattle.rs_types.specs.PathAttributes.{PathAttributes}
 use Rattle.rs_choice.specs.declared.plan.PeerSpec.{PeerSpec}
 use Rattle.rs_choice.specs.Naturality.{list_any-map}
 use Rattle.rs_choice.specs.Checks.{refuses_spec}
 use Rattle.rs_choice.specs.Plan.{Peer, Plan, peer_of}
 use Rattle.rs_choice.specs.Refusal.{refuses, refusals_of, IsRefusal}
-use Rattle.rs_choice.specs.Policy.{is_permitted, is_permitted_from, permits_by_communities}
+use Rattle.rs_choice.specs.Policy.{is_permitted, permits_by_communities}
 use Rattle.rs_choice.specs.PolicyCase.{first_case, permits_both}
 use Rattle.rs_choice.proofs.Members.{some_at}
 use Rattle.rs_choice.proofs.PermitLemmas.{is_permitted-known}
