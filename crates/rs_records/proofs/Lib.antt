@@ -1,3 +1,4 @@
 pub mod BufferLemmas
 pub mod PeerLemmas
 pub mod PlanLemmas
+pub mod RowLemmas

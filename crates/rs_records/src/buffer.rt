@@ -11,7 +11,7 @@ ghost use Rattle.rs_records.specs.DumpType.{TABLE_DUMP_V2 as the_type};
 use rs_mrt::{HEADER_LEN, write_header};
 
 // The Type of all records of a dump (RFC 6396, section 4).
-const TABLE_DUMP_V2: u16 = 13;
+pub(crate) const TABLE_DUMP_V2: u16 = 13;
 
 // Appends octets for which there is room.
 pub(crate) fn put(buffer: &mut Vec<u8>, octets: &[u8])
