@@ -1,5 +1,5 @@
 -- A dump that is being written, step by step.
-use Rattle.std.proofs.Common.{◌≡◌, ℕ, ◌≤◌, ◌+◌, ◌∙◌, List, ◌++◌, length, take, Option, None, Some, Result, Ok, Err, OnErr, refl, ap, sym}
+use Rattle.std.proofs.Common.{◌≡◌, ℕ, ◌≤◌, ◌+◌, ◌∙◌, List, ◌++◌, length, take, Option, None, Some, Result, Ok, Err, OnErr, OnOk, refl, ap, sym}
 use Rattle.std.proofs.Common.{subst, append_assoc, arith, length-append}
 use Rattle.std.specs.Io.KnownBytes.{Appends}
 use Rattle.std.proofs.lemmas.List.{take-append-le}
@@ -16,6 +16,11 @@ OnErr-always (Err e) held = held
 pub OnErr-then : {T E A B : Type 0} (result : Result T E) → (A → B) → OnErr result A → OnErr result B
 OnErr-then (Ok x) follows held = tt
 OnErr-then (Err e) follows held = follows held
+
+-- what follows from what holds of an answer
+pub OnOk-then : {T E A B : Type 0} (result : Result T E) → (A → B) → OnOk result A → OnOk result B
+OnOk-then (Ok x) follows held = follows held
+OnOk-then (Err e) follows held = tt
 
 -- octets that are known grow twice
 Appends-append : (old mid new : Option (List ℕ)) (first second : List ℕ) → Appends old mid first → Appends mid new second

@@ -61,7 +61,7 @@ fn add_row<W: Write>(
     ensures label { W.label out.new ≡ W.label out.old }
     ensures capacity { BUFFER_LEN ≤ vec_capacity buffer.new }
 {
-    make_room(out, buffer)?;
+    make_room(out, buffer, 0)?;
     let entry = RibEntry {
         peer: row.route.peer,
         time: row.route.time,
@@ -92,14 +92,49 @@ pub(crate) fn add_rows<W: Write>(
     ensures label { W.label out.new ≡ W.label out.old }
     ensures capacity { BUFFER_LEN ≤ vec_capacity buffer.new }
 {
+    make_room(out, buffer, attributes_len(rows))?;
+    add_each(out, buffer, time, first, rows)
+}
+
+// Adds the records of rows one by one, as `add_rows` does.
+fn add_each<W: Write>(
+    out: &mut W,
+    buffer: &mut Vec<u8>,
+    time: u32,
+    first: u32,
+    rows: &[Row],
+) -> Result<(), Failed>
+    requires peers_known { All (λ row. row.route.peer < 65536) (map row_of rows.now) }
+    requires numbered { first + length rows.now ≤ u32.MAX }
+    requires failures { W.failures out.old < u64.MAX }
+    requires capacity { BUFFER_LEN ≤ vec_capacity buffer.old }
+    ensures ok { OnOk result (IsUnderWay (W.taken out.old) (W.taken out.new) buffer.new.items
+        (buffer.old.items ++ spelled_rows time first (map row_of rows.now))) }
+    ensures ok_failures { OnOk result (W.failures out.new ≡ W.failures out.old) }
+    ensures err { OnErr result (AppendsBeginning (W.taken out.old) (W.taken out.new)
+        (buffer.old.items ++ spelled_rows time first (map row_of rows.now))) }
+    ensures err_failures { OnErr result (W.failures out.new ≡ W.failures out.old + 1) }
+    ensures label { W.label out.new ≡ W.label out.old }
+    ensures capacity { BUFFER_LEN ≤ vec_capacity buffer.new }
+{
     for place in 0..rows.len() {
         add_row(out, buffer, time, first + place as u32, &rows[place])?;
     }
     Ok(())
 }
 
-// Makes room for a record: writes what waits, if that is a piece.
-fn make_room<W: Write>(out: &mut W, buffer: &mut Vec<u8>) -> Result<(), Failed>
+// How many octets the attributes of all rows have. To ask for this reads from the memory of each route. One read doesn't
+// wait for another one here, as it would between the rows that are spelled.
+fn attributes_len(rows: &[Row]) -> usize {
+    let mut len: usize = 0;
+    for row in rows {
+        len = len.saturating_add(row.route.attributes.written_len());
+    }
+    len
+}
+
+// Makes room for a record: writes what waits, if with `more` octets it would be a piece.
+fn make_room<W: Write>(out: &mut W, buffer: &mut Vec<u8>, more: usize) -> Result<(), Failed>
     requires failures { W.failures out.old < u64.MAX }
     requires capacity { BUFFER_LEN ≤ vec_capacity buffer.old }
     ensures ok { OnOk result (IsUnderWay (W.taken out.old) (W.taken out.new) buffer.new.items buffer.old.items) }
@@ -110,7 +145,7 @@ fn make_room<W: Write>(out: &mut W, buffer: &mut Vec<u8>) -> Result<(), Failed>
     ensures label { W.label out.new ≡ W.label out.old }
     ensures capacity { BUFFER_LEN ≤ vec_capacity buffer.new }
 {
-    if buffer.len() >= PIECE_LEN {
+    if buffer.len().saturating_add(more) >= PIECE_LEN {
         write_all(out, buffer)?;
         buffer.clear();
     }

@@ -20,10 +20,10 @@ Gains-row old first second new header number prefix count entry before then afte
     let both = Gains-append old first second (header ++ number) prefix before then in
     let all = Gains-append old second new (header ++ number ++ prefix) (count ++ entry) both after in
     let inner : number ++ prefix ++ count ++ entry ≡ number ++ (prefix ++ (count ++ entry)) =
-        append_assoc (number ++ prefix) count entry ∙ append_assoc number prefix (count ++ entry) in
+    append_assoc (number ++ prefix) count entry ∙ append_assoc number prefix (count ++ entry) in
     let same : header ++ number ++ prefix ++ (count ++ entry) ≡ header ++ (number ++ prefix ++ count ++ entry) =
-        append_assoc (header ++ number) prefix (count ++ entry) ∙ append_assoc header number (prefix ++ (count ++ entry))
-        ∙ ap (λ octets. header ++ octets) (sym inner) in
+    append_assoc (header ++ number) prefix (count ++ entry) ∙ append_assoc header number (prefix ++ (count ++ entry))
+    ∙ ap (λ octets. header ++ octets) (sym inner) in
     record {
       items = all.items ∙ ap (λ octets. old.items ++ octets) same;
       len = all.len ∙ ap (λ octets. vec_len old + length octets) same;
@@ -37,9 +37,14 @@ pub row-length : (sequence : ℕ) (prefix : IpPrefix) (entry : SentRoute) (count
 row-length sequence prefix entry count attributes same fits written_len =
     let address = take (octets_for prefix.len) (big_bytes 4 prefix.address) in
     let short : length address ≡ octets_for prefix.len =
-        length-take-le (octets_for prefix.len) (big_bytes 4 prefix.address) (omega (arith, same)) in
-    omega (arith, same, written_len, short,
-        length-append (big_bytes 4 sequence ++ spelled_prefix prefix ++ big_bytes 2 1) (rib_entry entry),
-        length-append (big_bytes 4 sequence ++ spelled_prefix prefix) (big_bytes 2 1),
-        length-append (big_bytes 4 sequence) (spelled_prefix prefix),
-        length-append (big_bytes 2 entry.peer ++ big_bytes 4 entry.time ++ big_bytes 2 (length (written entry.attributes))) (written entry.attributes))
+    length-take-le (octets_for prefix.len) (big_bytes 4 prefix.address) (omega (arith, same)) in
+    omega (
+      arith,
+      same,
+      written_len,
+      short,
+      length-append (big_bytes 4 sequence ++ spelled_prefix prefix ++ big_bytes 2 1) (rib_entry entry),
+      length-append (big_bytes 4 sequence ++ spelled_prefix prefix) (big_bytes 2 1),
+      length-append (big_bytes 4 sequence) (spelled_prefix prefix),
+      length-append (big_bytes 2 entry.peer ++ big_bytes 4 entry.time ++ big_bytes 2 (length (written entry.attributes))) (written entry.attributes),
+    )

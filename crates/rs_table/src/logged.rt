@@ -158,11 +158,12 @@ impl LoggedChange {
         matches!(self.change, Packed::Announced { .. })
     }
 
-    /// Reads from the memory in which the attributes of an announcement lie, so that they are at hand soon after.
-    /// What is read is how many share them: no compiler leaves out this read, which is atomic.
-    pub(crate) fn read_attributes(&self) {
-        if let Packed::Announced { attributes, .. } = &self.change {
-            let _shared = Arc::strong_count(attributes);
+    /// Whether the written form of an announcement's attributes begins with a zero. To ask reads from both blocks of
+    /// memory that attributes have, so that they are at hand soon after.
+    pub(crate) fn begins_with_zero(&self) -> bool {
+        match &self.change {
+            Packed::Announced { attributes, .. } => attributes.spelling().first() == Some(&0),
+            Packed::Withdrawn { .. } => false,
         }
     }
 

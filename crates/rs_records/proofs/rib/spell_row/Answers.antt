@@ -17,8 +17,8 @@ returns c =
     let P : ℕ → Type 0 = λ len. Gains c.args.buffer.now c.spell_entry.new.buffer (header len ++ body) in
     let len = 15 + c.octet_count.result + c.written_len.result in
     let same : len ≡ length body =
-        row-length c.args.sequence c.args.prefix entry c.octet_count.result c.written_len.result
-        c.octet_count.ensures.value c.octet_count.ensures.bound c.written_len.ensures.value in
+    row-length c.args.sequence c.args.prefix entry c.octet_count.result c.written_len.result
+    c.octet_count.ensures.value c.octet_count.ensures.bound c.written_len.ensures.value in
     subst P same
     (Gains-row c.args.buffer.now c.put_front.new.buffer c.spell_prefix.new.buffer c.spell_entry.new.buffer
     (header len) (big_bytes 4 c.args.sequence) (spelled_prefix c.args.prefix) (big_bytes 2 1) (rib_entry entry)

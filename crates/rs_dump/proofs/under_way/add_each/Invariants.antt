@@ -3,7 +3,7 @@ use Rattle.rs_table.specs.RouteView.{row_of}
 use Rattle.rs_dump.specs.declared.under_way.TheConstants.{BUFFER_LEN}
 use Rattle.rs_dump.specs.Dump.{spelled_rows}
 use Rattle.rs_dump.specs.UnderWay.{IsUnderWay}
-use Rattle.rs_dump.proofs.under_way.add_rows.Given as goal
+use Rattle.rs_dump.proofs.under_way.add_each.Given as goal
 
 -- what is out and what waits in the buffer are what waited and the records of the rows so far
 abbrev pub invariant-loop-place : goal.invariant-loop-place
