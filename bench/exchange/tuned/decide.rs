@@ -72,8 +72,8 @@ impl<'a> Decider<'a> {
         choices
     }
 
-    // Keeps the last change of each peer, if it leaves a candidate. Answers whether all clients may get all of them, and
-    // no two have the same neighbour AS.
+    // Keeps the last change of each peer, if it leaves a candidate. Answers whether all clients may get all of these,
+    // and no two have the same neighbour AS.
     fn gather(&mut self, changes: &[Change]) -> bool {
         self.routes.clear();
         let mut is_simple = self.is_simple;
@@ -106,8 +106,8 @@ impl<'a> Decider<'a> {
         choices.push(Choice { route: second, client: best.change.peer() as u16 });
     }
 
-    // The choice among all is that of each client to which those routes are permitted on which it rests: the chosen one,
-    // and those that keep out another one.
+    // The choice among all rests on the chosen route, and on those that keep out another one by their MED. Each client
+    // gets it to which these are permitted; each other client has a choice of its own.
     fn decide_any(&mut self, choices: &mut Vec<Choice>) {
         let mut groups = std::mem::take(&mut self.groups);
         if let Some(best) = self.choose(&mut groups, |_| true) {

@@ -7,7 +7,7 @@ use std::io::{self, Write};
 use std::ops::Range;
 use std::path::Path;
 
-const PIECE_LEN: usize = 1 << 16;
+const PIECE_LEN: usize = 1 << 15;
 // Where the Sequence Number of a record stands, and the longest record.
 const SEQUENCE: Range<usize> = 12..16;
 const LONGEST_RECORD: usize = 4136;

@@ -1,6 +1,7 @@
-//! A plain program that is tuned by hand, over the files of the generator: as fast as the work can be done on a few
-//! threads, without the order of changes of `route_server`. It keeps all changes as numbers, sorts those of each first octet, decides each
-//! prefix once, and writes the dumps of some clients side by side. It is the second baseline of the ratio.
+//! A plain program that is tuned by hand, over the files of the generator: as fast as the same dumps and the same
+//! report can be had on a few threads. It keeps all changes as numbers in lists by first octet, sorts each list,
+//! decides each prefix once for all clients, and writes the dumps of some clients side by side. It is the second
+//! baseline of the ratios. A message that has a fault, and a record of another kind, end it.
 //!
 //! usage: tuned FOLDER PEERS OUT [THREADS]
 mod decide;
@@ -15,7 +16,7 @@ mod tables;
 mod update;
 
 use decide::{Choice, Decider};
-use read::{read_session, Lists, Session};
+use read::{Lists, Session, read_session};
 use std::io::{self, Write};
 use std::ops::Range;
 use std::path::Path;
@@ -24,10 +25,10 @@ use std::thread;
 use store::Arena;
 use tables::Plan;
 
-// The most dumps that a thread writes side by side: their pieces are to fit into a cache of its processor.
-const DUMPS_AT_ONCE: usize = 8;
+// The most dumps that a thread writes side by side: their buffers are to fit into a cache of its processor.
+const DUMPS_AT_ONCE: usize = 16;
 
-// Does some pieces of work on threads, each of which takes the next piece that none has taken, and gathers what comes of
+// Does some pieces of work on threads. Each thread takes the next piece that none has taken, and gathers what comes of
 // it in a state of its own. Answers the states.
 fn in_turn<S: Send>(
     threads: usize,
@@ -68,8 +69,7 @@ fn read_all(plan: &Plan, folder: &Path, threads: usize) -> io::Result<(Vec<Arena
         Ok(())
     })?;
     let (lists, sessions): (Vec<Lists>, Vec<Vec<(usize, Session)>>) = states.into_iter().unzip();
-    let (arenas, changes) =
-        in_order(sessions).into_iter().map(|session| (session.arena, session.changes)).unzip();
+    let (arenas, changes) = in_order(sessions).into_iter().map(|session| (session.arena, session.changes)).unzip();
     Ok((arenas, changes, lists))
 }
 
@@ -100,6 +100,7 @@ fn main() -> io::Result<()> {
     let words: Vec<String> = std::env::args().collect();
     let (folder, out) = (Path::new(&words[1]), Path::new(&words[3]));
     let peers = words[2].parse().expect("PEERS");
+    assert!(peers <= tables::MAX_PEERS, "too many peers");
     let threads = words.get(4).map_or(4, |word| word.parse().expect("THREADS"));
     let plan = Plan::of_equals(peers, 64501, 0xC000_020B);
     let (arenas, changes, lists) = read_all(&plan, folder, threads)?;

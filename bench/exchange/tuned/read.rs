@@ -5,7 +5,7 @@ use crate::store::{Arena, Change, Head};
 use crate::tables::Plan;
 use crate::update::{self, Attributes, Message};
 use std::fs::File;
-use std::io::{self, Read};
+use std::io::{self, ErrorKind, Read};
 use std::path::Path;
 
 const PIECE_LEN: usize = 1 << 18;
@@ -39,8 +39,10 @@ pub fn read_session(plan: &Plan, peer: usize, path: &Path, lists: &mut Lists) ->
     let mut len = 0;
     loop {
         let more = file.read(&mut buffer[len..])?;
-        if more == 0 {
-            return Ok(reader.session);
+        match more {
+            0 if len >= RECORD_HEADER => return Err(ErrorKind::UnexpectedEof.into()),
+            0 => return Ok(reader.session),
+            _ => {}
         }
         len += more;
         let used = reader.take_records(&buffer[..len]);

@@ -119,7 +119,7 @@ fn ask_for_huge_pages(blocks: &Vec<[u8; 16]>) {
     let start = blocks.as_ptr().cast::<u8>();
     let skip = start.align_offset(PAGE_LEN);
     let len = (16 * blocks.capacity()).saturating_sub(skip);
-    // The pages are those of the blocks alone, and keep their octets.
+    // All pages keep their octets.
     unsafe { madvise(start.wrapping_add(skip), len, MADV_HUGEPAGE) };
 }
 
