@@ -1,5 +1,5 @@
 -- The policy at two known peers, and routes that no community may refuse, which are refused by their senders' names alone.
--- For `permits` and `permits_other` of exchange.rt, and for `permits` of rs_survey.
+-- For `permits`, `permits_other` and `is_open` of policy.rt, and for `permits` of rs_survey.
 use Rattle.std.proofs.Common.{◌≡◌, ◌∙◌, sym, arith, ℕ, ◌<◌, ◌/◌, ◌*◌, ◌+◌, ◌==◌, Bool, true, false, not, ◌&&◌, ◌||◌, ◌≢◌, inl, inr, List}
 use Rattle.std.proofs.Common.{[], ◌∷◌, length, Option, None, Some, refl}
 use Rattle.std.specs.Prelude.{slice_get, nat_lt, if◌then◌else◌}
@@ -8,12 +8,13 @@ use Rattle.std.proofs.lemmas.Bool.{and_left, and_right, cases_Bool, ltb-true, ne
 use Rattle.std.proofs.lemmas.Bool.Decides.{nat_tests}
 use Rattle.rs_types.specs.PathAttributes.{PathAttributes, CommunityList}
 use Rattle.rs_types.specs.Community.{has_community_in, has_community_of_in, has_value_of}
+use Rattle.rs_choice.specs.Held.{IsOpen}
 use Rattle.rs_choice.specs.LargeCommunity.{LargeCommunity, has_large_in, has_large_community, has_large_community_of, is_large_of}
 use Rattle.rs_choice.specs.LargeCommunity.{large_communities_of}
 use Rattle.rs_choice.specs.Plan.{Peer, Plan}
-use Rattle.rs_choice.specs.Refusal.{refuses, IsRefusal}
+use Rattle.rs_choice.specs.Refusal.{refuses, IsRefusal, IsRefusedSender}
 use Rattle.rs_choice.specs.Policy.{has_large, is_permitted, is_permitted_from, may_refuse, permits_by_communities}
-use Rattle.rs_choice.proofs.Members.{some_at}
+use Rattle.rs_choice.proofs.Members.{list_any-none, mem-slice_get, some_at}
 
 -- the policy at two known peers
 pub is_permitted-known : (plan : Plan) (client number : ℕ) (attributes : PathAttributes) (one other : Peer) →
@@ -97,3 +98,14 @@ is_permitted-without_0 plan client number attributes refused known sender_known 
     let permits = permits_without_0 plan one.0.asn attributes none in
     sym (is_permitted-known plan client number attributes one.0 other.0 one.1 other.1
     ∙ rw (ne_eqb client number differ, says, permits) (turned refused))
+
+-- and if no client refuses its sender, every client but the sender gets it
+pub open-without_0 : (plan : Plan) (number : ℕ) (attributes : PathAttributes) (refused : Bool) → number < length plan.peers →
+    IsRefusedSender plan.peers number refused → refused ≡ false → may_refuse plan attributes ≡ false → IsOpen plan number attributes
+open-without_0 plan number attributes refused sender_known says none no_community client known differ =
+    sym (is_permitted-without_0 plan client number attributes false known sender_known differ none_refuses no_community)
+  where
+    none_refuses : IsRefusal plan.peers client number false
+    none_refuses one other at_one at_other =
+        sym (list_any-none (λ receiver. refuses receiver other) plan.peers one (sym (says other at_other) ∙ none)
+        (mem-slice_get plan.peers client one at_one))

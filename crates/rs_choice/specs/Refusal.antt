@@ -12,8 +12,21 @@ refuses client sender = list_any (λ name. bytes_eq name sender.name) client.ref
 abbrev pub refusals_of : List Peer → List (List Bool)
 refusals_of peers = map (λ client. map (refuses client) peers) peers
 
+-- whether some peer refuses all routes of a sender
+abbrev pub is_refused : List Peer → Peer → Bool
+is_refused peers sender = list_any (λ client. refuses client sender) peers
+
+-- for each peer, whether some peer refuses its routes
+abbrev pub refused_of : List Peer → List Bool
+refused_of peers = map (is_refused peers) peers
+
 -- the answer says whether the client of one number refuses the sender of another
 abbrev pub IsRefusal : List Peer → ℕ → ℕ → Bool → Type 0
 IsRefusal peers client sender answer =
     (one other : Peer) → slice_get peers client ≡ Some one → slice_get peers sender ≡ Some other
     → answer ≡ refuses one other
+
+-- the answer says whether some peer refuses the sender of this number
+abbrev pub IsRefusedSender : List Peer → ℕ → Bool → Type 0
+IsRefusedSender peers number answer =
+    (sender : Peer) → slice_get peers number ≡ Some sender → answer ≡ is_refused peers sender

@@ -1,9 +1,10 @@
 //! An exchange: a plan without a fault.
 
 ghost use Rattle.std.specs.Prelude.{◌≡◌, ◌<◌, ◌≤◌, IfErr, IfOk, OnOk, None, Some, false, length, map, slice_get};
+ghost use Rattle.std.specs.List.{list_any};
 ghost use Rattle.rs_choice.specs.Plan.{peer_of, plan_fault, Refuses};
 ghost use Rattle.rs_choice.specs.Checks.{refuses_spec};
-ghost use Rattle.rs_choice.specs.Refusal.{IsRefusal, refusals_of};
+ghost use Rattle.rs_choice.specs.Refusal.{IsRefusal, IsRefusedSender, refusals_of, refused_of};
 
 use crate::checks;
 use crate::fault::PlanFault;
@@ -18,6 +19,8 @@ pub struct Exchange {
     peers: Vec<PeerSpec>,
     // For each client, for each peer: whether the client refuses routes from that peer.
     refusals: Vec<Vec<bool>>,
+    // For each peer: whether some client refuses routes from it.
+    refused: Vec<bool>,
     // Whether export policy counts large communities.
     large_communities: bool,
 }
@@ -47,10 +50,12 @@ impl Exchange {
             return Err(fault);
         }
         let refusals = refusals(alloc, &peers)?;
+        let refused = refused(alloc, &peers)?;
         Ok(Exchange {
             local,
             peers,
             refusals,
+            refused,
             large_communities: false,
         })
     }
@@ -104,6 +109,15 @@ impl Exchange {
     {
         self.refusals[client][peer]
     }
+
+    // Whether some client refuses all routes of the peer of number `peer`, by that peer's name. Most peers are refused
+    // by none.
+    pub(crate) fn is_refused(&self, peer: usize) -> bool
+        requires { peer < length self.now.peers }
+        ensures { IsRefusedSender self.now.peers peer result }
+    {
+        self.refused[peer]
+    }
 }
 
 // For each client, for each peer: whether the client refuses its routes.
@@ -127,6 +141,30 @@ fn refusal_row(
 {
     peers
         .iter()
-        .map(|sender| client.refuse_from.contains(&sender.name))
+        .map(|sender| refuses_name(client, sender))
         .collect(alloc)
+}
+
+// For each peer: whether some client refuses its routes.
+fn refused(alloc: Global, peers: &[PeerSpec]) -> Result<Vec<bool>, AllocError>
+    ensures { IfOk result (λ row. row.items ≡ refused_of (map peer_of peers.now)) }
+{
+    peers
+        .iter()
+        .map(|sender| some_refuses(peers, sender))
+        .collect(alloc)
+}
+
+// Whether some client refuses the routes of a sender.
+fn some_refuses(peers: &[PeerSpec], sender: &PeerSpec) -> bool
+    ensures { result ≡ list_any (λ client. refuses_spec client sender.now) peers.now }
+{
+    peers.iter().any(|client| refuses_name(client, sender))
+}
+
+// Whether a client refuses the routes of a sender, by the sender's name.
+fn refuses_name(client: &PeerSpec, sender: &PeerSpec) -> bool
+    ensures { result ≡ refuses_spec client.now sender.now }
+{
+    client.refuse_from.contains(&sender.name)
 }

@@ -58,13 +58,16 @@ impl Exchange {
             && self.permits_by_communities(self.peer(client).asn, attributes)
     }
 
-    // Whether every client but the peer of number `peer` may get a route of that peer. The communities are looked
-    // through for each client only if some community may refuse the route, since most routes have none.
+    // Whether every client but the peer of number `peer` may get a route of that peer. The clients are looked at only
+    // if some community may refuse the route or some client refuses the sender. For most routes neither is so.
     pub(crate) fn is_open(&self, peer: usize, attributes: &Attributes) -> bool
         requires { peer < length self.now.peers }
         ensures { IsTrue result ↔ IsOpen self.now peer attributes.now }
     {
         let refuses = self.may_refuse(attributes);
+        if !refuses && !self.is_refused(peer) {
+            return true;
+        }
         for client in 0..self.count() {
             if client != peer && !self.permits_other(client, peer, attributes, refuses) {
                 return false;

@@ -1,9 +1,10 @@
 -- Refusals by name, as an exchange keeps them, and the policy at two known peers.
--- For `refusals` and `refuses` of exchange.rt, and `permits` and `permits_by_communities` of policy.rt.
+-- For `refusals`, `refused`, `refuses` and `is_refused` of exchange.rt, and `permits` and `permits_by_communities` of policy.rt.
 use mathlib.Core.List.{map-map}
 use Rattle.std.proofs.Common.{◌≡◌, ◌∙◌, sym, ap, ℕ, ◌<◌, Bool, true, false, ◌||◌, ◌≢◌, List}
 use Rattle.std.proofs.Common.{length, map, get_or, Some, refl}
 use Rattle.std.specs.Prelude.{slice_get, string_bytes, if◌then◌else◌}
+use Rattle.std.specs.List.{list_any}
 use Rattle.std.specs.Str.{bytes_eq}
 use Rattle.std.specs.Option.{option_map}
 use Rattle.std.proofs.lemmas.Option.{slice_get-map, get_or_from_slice_get, slice_get_read, slice_get_within}
@@ -14,7 +15,7 @@ use Rattle.rs_choice.specs.declared.plan.PeerSpec.{PeerSpec}
 use Rattle.rs_choice.specs.Naturality.{list_any-map}
 use Rattle.rs_choice.specs.Checks.{refuses_spec}
 use Rattle.rs_choice.specs.Plan.{Peer, Plan, peer_of}
-use Rattle.rs_choice.specs.Refusal.{refuses, refusals_of, IsRefusal}
+use Rattle.rs_choice.specs.Refusal.{refuses, refusals_of, is_refused, refused_of, IsRefusal, IsRefusedSender}
 use Rattle.rs_choice.specs.Policy.{is_permitted, permits_by_communities}
 use Rattle.rs_choice.specs.PolicyCase.{first_case, permits_both}
 use Rattle.rs_choice.proofs.Members.{some_at}
@@ -79,6 +80,28 @@ refusals_of-map peers =
     row client =
         map-map (refuses (peer_of client)) peer_of peers
         ∙ (λ i. map (λ sender. refuses-map client sender i) peers)
+
+refused-map : (peers : List PeerSpec) (sender : PeerSpec) →
+    is_refused (map peer_of peers) (peer_of sender) ≡ list_any (λ client. refuses_spec client sender) peers
+refused-map peers sender =
+    list_any-map peer_of (λ client. refuses client (peer_of sender)) peers
+    ∙ (λ i. list_any (λ client. refuses-map client sender i) peers)
+
+-- and the senders that some client refuses
+pub refused_of-map : (peers : List PeerSpec) →
+    refused_of (map peer_of peers) ≡ map (λ sender. list_any (λ client. refuses_spec client sender) peers) peers
+refused_of-map peers =
+    map-map (is_refused (map peer_of peers)) peer_of peers
+    ∙ (λ i. map (λ sender. refused-map peers sender i) peers)
+
+-- at the number of a sender that list has the answer
+pub answer_of_refused : (row : List Bool) (peers : List Peer) (number : ℕ) (answer : Bool) →
+    row ≡ refused_of peers → answer ≡ get_or row number answer → IsRefusedSender peers number answer
+answer_of_refused row peers number answer agree at_answer sender at_sender =
+    let at_number : slice_get (refused_of peers) number ≡ Some (is_refused peers sender) =
+    slice_get-map (is_refused peers) peers number ∙ ap (option_map (is_refused peers)) at_sender in
+    at_answer ∙ ap (λ (row : List Bool). get_or row number answer) agree
+    ∙ get_or_from_slice_get (refused_of peers) number (is_refused peers sender) answer at_number
 
 -- the earlier of two cases permits a route as the first case does that either names
 pub permits_both-first : (refuses permits all refuses' permits' all' : Bool) →
