@@ -1,5 +1,5 @@
 -- A configuration sets up one exchange at most: each value stands for one thing at most, so does each key, and so does each table.
-use Rattle.std.proofs.Common.{◌≡◌, ◌∙◌, ℕ, pos, List, [], ◌∷◌, ◌++◌, map, codes, decimal, Option, None, Some, sym, ap, refl, subst}
+use Rattle.std.proofs.Common.{◌≡◌, ◌∙◌, ℕ, Bool, pos, List, [], ◌∷◌, ◌++◌, map, codes, decimal, Option, None, Some, sym, ap, refl, subst}
 use Rattle.std.proofs.Common.{append_assoc, drop, lit≤, arith}
 use Rattle.std.proofs.lemmas.Fmt.{decimal_injective}
 use Rattle.std.proofs.NetLemmas.Ipv4.{read_ipv4_complete}
@@ -7,7 +7,7 @@ use Rattle.std.proofs.NetLemmas.Options.{same_parts}
 use Rattle.std.specs.Int.{w32, from_be_bytes}
 use Rattle.std.specs.Net.Reader.{read_ipv4}
 use Rattle.std.specs.Prelude.{IsSomeAnd, MatchOption}
-use Rattle.toml.specs.Data.{Data, integer, string, array, table, Items, no_items, item, Members, get_member}
+use Rattle.toml.specs.Data.{Data, integer, string, boolean, array, table, Items, no_items, item, Members, get_member}
 use Rattle.toml.specs.View.{items_of}
 use Rattle.rs_choice.specs.Plan.{Peer}
 use Rattle.rs_choice.specs.declared.plan.Local.{Local}
@@ -15,7 +15,8 @@ use Rattle.rs_update.specs.IpPrefix.{IpPrefix}
 use Rattle.rs_update.specs.Prefix.{network_of}
 use Rattle.rs_setup.specs.Setup.{ArePeers, ArePeersOf, IsPeer, IsPeerOf, IsServer, IsServerOf}
 use Rattle.rs_setup.specs.Laws.{SetsUpOnce}
-use Rattle.rs_setup.specs.Values.{IsAddress, IsDottedAddress, IsSlashedSubnet, IsSomeSubnet, IsSubnet, IsText, IsTexts, IsWholeNumber}
+use Rattle.rs_setup.specs.Values.{IsAddress, IsBoolean, IsDottedAddress, IsSlashedSubnet, IsSomeSubnet, IsSubnet, IsText, IsTexts}
+use Rattle.rs_setup.specs.Values.{IsWholeNumber}
 
 -- a value stands for one thing at most
 abbrev StandsForOne : {A : Type 0} → (Data → A → Type 0) → Type 0
@@ -24,6 +25,11 @@ StandsForOne {A} StandsFor = (value : Data) (x y : A) → StandsFor value x → 
 number_once : StandsForOne IsWholeNumber
 number_once value x y h k =
     let same : integer (pos x) ≡ integer (pos y) = sym h.0 ∙ k.0 in
+    cc
+
+boolean_once : StandsForOne IsBoolean
+boolean_once value x y h k =
+    let same : boolean x ≡ boolean y = sym h ∙ k in
     cc
 
 text_once : StandsForOne IsText
@@ -98,14 +104,17 @@ default_once : {A : Type 0} (StandsFor : Data → A → Type 0) → StandsForOne
 default_once StandsFor once None default other x y same h k = h ∙ same ∙ sym k
 default_once StandsFor once (Some value) default other x y same h k = once value x y h k
 
-server_once : (keys : Members) (x y : Local) → IsServerOf keys x → IsServerOf keys y → x ≡ y
-server_once keys x y h k =
+server_once : (keys : Members) (x y : Local) (large other : Bool) → IsServerOf keys x large → IsServerOf keys y other
+    → (x ≡ y) × (large ≡ other)
+server_once keys x y large other h k =
     let asn : x.asn ≡ y.asn = found_once IsWholeNumber number_once (get_member (codes "as") keys) _ _ h.asn k.asn in
     let address : x.address ≡ y.address = found_once IsAddress address_once (get_member (codes "address") keys) _ _ h.address k.address in
     let id : x.id ≡ y.id = default_once IsAddress address_once (get_member (codes "id") keys) _ _ _ _ address h.id k.id in
     let subnet : x.subnet ≡ y.subnet =
-    default_once IsSomeSubnet some_subnet_once (get_member (codes "subnet") keys) _ _ _ _ refl h.subnet k.subnet in
-    λ i. record { asn = asn i; address = address i; id = id i; subnet = subnet i }
+    default_once IsSomeSubnet some_subnet_once (get_member (codes "subnet") keys) _ _ _ _ refl h.subnet k.subnet in (
+      λ i. record { asn = asn i; address = address i; id = id i; subnet = subnet i },
+      default_once IsBoolean boolean_once (get_member (codes "large_communities") keys) _ _ _ _ refl h.large_communities k.large_communities,
+    )
 
 peer_once : (keys : Members) (x y : Peer) (file other : List ℕ) → IsPeerOf keys x file → IsPeerOf keys y other → (x ≡ y) × (file ≡ other)
 peer_once keys x y file other h k =
@@ -122,10 +131,11 @@ peer_once keys x y file other h k =
     )
 
 server_table_once : StandsForOne IsServer
-server_table_once value x y (keys, is, server) (others, are, also) =
+server_table_once value (x, large) (y, other) (keys, is, server) (others, are, also) =
     let same : table keys ≡ table others = sym is ∙ are in
     let equal : keys ≡ others = cc in
-    server_once others x y (subst (λ (one : Members). IsServerOf one x) equal server) also
+    let both = server_once others x y large other (subst (λ (one : Members). IsServerOf one x large) equal server) also in
+    λ i. (both.0 i, both.1 i)
 
 peer_table_once : (value : Data) (x y : Peer) (file other : List ℕ) → IsPeer value x file → IsPeer value y other → (x ≡ y) × (file ≡ other)
 peer_table_once value x y file other (keys, is, peer) (others, are, also) =
@@ -155,8 +165,8 @@ peers_of_once value (xs, files) (ys, others) (values, is, peers) (items, are, al
 
 pub setup_once : SetsUpOnce
 setup_once keys plan other files others h k =
-    let server : plan.local ≡ other.local =
+    let server : (plan.local, plan.large_communities) ≡ (other.local, other.large_communities) =
     found_once IsServer server_table_once (get_member (codes "server") keys) _ _ h.server k.server in
     let both : (plan.peers, files) ≡ (other.peers, others) =
     default_once ArePeersOf peers_of_once (get_member (codes "peer") keys) _ _ _ _ refl h.peers k.peers in
-    (λ i. record { local = server i; peers = (both i).0 }, λ i. (both i).1)
+    (λ i. record { local = (server i).0; peers = (both i).0; large_communities = (server i).1 }, λ i. (both i).1)

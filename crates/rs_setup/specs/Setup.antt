@@ -1,17 +1,19 @@
 -- What a configuration sets up: the server, its peers and their recorded files (our choice: RFC 4271 leaves
 -- configuration to the implementation).
-use Rattle.std.specs.Prelude.{◌≡◌, ℕ, List, [], ◌∷◌, codes, None}
+use Rattle.std.specs.Prelude.{◌≡◌, ℕ, Bool, false, List, [], ◌∷◌, codes, None}
 use Rattle.toml.specs.Data.{Data, table, array, Items, no_items, item, Members}
 use Rattle.rs_choice.specs.Plan.{Peer, Plan}
 use Rattle.rs_choice.specs.declared.plan.Local.{Local}
-use Rattle.rs_setup.specs.Values.{HasOnly, IsAddress, IsSomeSubnet, IsText, IsTexts, IsWholeNumber, MayHave, Needs}
+use Rattle.rs_setup.specs.Values.{HasOnly, IsAddress, IsBoolean, IsSomeSubnet, IsText, IsTexts, IsWholeNumber}
+use Rattle.rs_setup.specs.Values.{MayHave, Needs}
 
 -- the keys of a configuration, of its server and of a peer
 abbrev pub top_keys : List (List ℕ)
 top_keys = codes "peer" ∷ codes "server" ∷ []
 
 abbrev pub server_keys : List (List ℕ)
-server_keys = codes "address" ∷ codes "as" ∷ codes "id" ∷ codes "subnet" ∷ []
+server_keys =
+    codes "address" ∷ codes "as" ∷ codes "id" ∷ codes "large_communities" ∷ codes "subnet" ∷ []
 
 abbrev pub peer_keys : List (List ℕ)
 peer_keys =
@@ -22,13 +24,15 @@ peer_keys =
 abbrev pub default_preference : ℕ
 default_preference = 100
 
--- the server by its keys; if no identifier is configured, it is the server's address
-pub record IsServerOf (keys : Members) (server : Local) : Type 0 where
+-- The server by its keys, and whether large communities (RFC 8092) count in export policy. If no identifier is
+-- configured, it is the server's address. Large communities count only if that is configured.
+pub record IsServerOf (keys : Members) (server : Local) (counted : Bool) : Type 0 where
   pub known : HasOnly server_keys keys
   pub asn : Needs keys (codes "as") IsWholeNumber server.asn
   pub address : Needs keys (codes "address") IsAddress server.address
   pub id : MayHave keys (codes "id") IsAddress server.address server.id
   pub subnet : MayHave keys (codes "subnet") IsSomeSubnet None server.subnet
+  pub large_communities : MayHave keys (codes "large_communities") IsBoolean false counted
 
 -- A peer and the path of its recorded file, by the peer's keys. If no identifier is configured, it is the peer's
 -- address. If no preference is configured, it is the default, and if no refusals are configured, the peer refuses no
@@ -43,9 +47,9 @@ pub record IsPeerOf (keys : Members) (peer : Peer) (path : List ℕ) : Type 0 wh
   pub refuse_from : MayHave keys (codes "refuse_from") IsTexts [] peer.refuse_from
   pub file : Needs keys (codes "file") IsText path
 
--- a table that is the server's
-abbrev pub IsServer : Data → Local → Type 0
-IsServer value server = (keys : Members) × (value ≡ table keys) × IsServerOf keys server
+-- a table that is the server's, and says whether large communities count
+abbrev pub IsServer : Data → Local × Bool → Type 0
+IsServer value (server, counted) = (keys : Members) × (value ≡ table keys) × IsServerOf keys server counted
 
 -- a table that is a peer's
 abbrev pub IsPeer : Data → Peer → List ℕ → Type 0
@@ -65,5 +69,5 @@ ArePeersOf value (peers, files) = (values : Items) × (value ≡ array values) �
 -- the order of the peers.
 pub record IsSetup (keys : Members) (plan : Plan) (files : List (List ℕ)) : Type 0 where
   pub known : HasOnly top_keys keys
-  pub server : Needs keys (codes "server") IsServer plan.local
+  pub server : Needs keys (codes "server") IsServer (plan.local, plan.large_communities)
   pub peers : MayHave keys (codes "peer") ArePeersOf ([], []) (plan.peers, files)

@@ -1,13 +1,13 @@
 -- The meaning of the values of a configuration, and the keys that its tables have (our choice: RFC 4271 leaves
 -- configuration to the implementation).
-use Rattle.std.specs.Prelude.{◌≡◌, ℕ, ◌<◌, ◌≤◌, ◌^◌, pos, List, ◌++◌, map, codes, decimal, Option, IsSomeAnd}
+use Rattle.std.specs.Prelude.{◌≡◌, ℕ, ◌<◌, ◌≤◌, ◌^◌, pos, Bool, List, ◌++◌, map, codes, decimal, Option, IsSomeAnd}
 use Rattle.std.specs.Prelude.{MatchOption, All, ◌≢◌}
 use Rattle.std.specs.Int.{w32, from_be_bytes}
 use Rattle.std.specs.List.{Contains}
 use Rattle.std.specs.Net.Grammar.{IsDotted}
 use Rattle.rs_update.specs.IpPrefix.{IpPrefix}
 use Rattle.rs_update.specs.Prefix.{network_of}
-use Rattle.toml.specs.Data.{Data, integer, string, array, Items, Members, no_members, member, get_member}
+use Rattle.toml.specs.Data.{Data, integer, string, boolean, array, Items, Members, no_members, member, get_member}
 use Rattle.toml.specs.View.{items_of}
 
 -- a value or a text has no meaning of this sort
@@ -17,6 +17,10 @@ StandsForNone {V} {A} StandsFor value = (found : A) → ¬ (StandsFor value foun
 -- a whole number of 32 bits
 abbrev pub IsWholeNumber : Data → ℕ → Type 0
 IsWholeNumber value number = (value ≡ integer (pos number)) × (number < 2 ^ 32)
+
+-- a Boolean: `true` or `false`
+abbrev pub IsBoolean : Data → Bool → Type 0
+IsBoolean value truth = value ≡ boolean truth
 
 -- a text is an address: four decimal numbers with dots between them and without needless zeros
 abbrev pub IsDottedAddress : List ℕ → ℕ → Type 0

@@ -3,8 +3,8 @@
 ghost use Rattle.std.specs.Prelude.{◌≡◌, IfOk, None, Some, [], map, option_map, string_bytes};
 ghost use Rattle.toml.specs.Data.{get_member};
 ghost use Rattle.toml.specs.View.{table_view, view};
-ghost use Rattle.rs_setup.specs.Values.{HasOnly, IsAddress, IsSomeSubnet, IsText, IsTexts, IsWholeNumber, MayHave};
-ghost use Rattle.rs_setup.specs.Values.{Needs};
+ghost use Rattle.rs_setup.specs.Values.{HasOnly, IsAddress, IsBoolean, IsSomeSubnet, IsText, IsTexts, IsWholeNumber};
+ghost use Rattle.rs_setup.specs.Values.{MayHave, Needs};
 
 use crate::setup::SetupFault;
 use crate::values::{address, subnet, texts, whole_number};
@@ -108,6 +108,16 @@ impl<'a> Section<'a> {
     {
         match self.get(key) {
             Some(value) => self.valid(alloc, key, whole_number(value)),
+            None => Ok(default),
+        }
+    }
+
+    /// The Boolean at a key, or else the default.
+    pub fn boolean_or(&self, alloc: Global, key: &str, default: bool) -> Result<bool, SetupFault>
+        ensures { IfOk result (MayHave (members_in self.now) key.now IsBoolean default) }
+    {
+        match self.get(key) {
+            Some(value) => self.valid(alloc, key, value.as_bool()),
             None => Ok(default),
         }
     }

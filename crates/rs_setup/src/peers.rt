@@ -17,24 +17,37 @@ use toml::{Table, Value};
 // The preference of a peer that has none of its own.
 const DEFAULT_PREFERENCE: u32 = 100;
 
-/// Reads the server out of the configuration's table.
-pub fn read_server(alloc: Global, top: &Section) -> Result<Local, SetupFault>
+// Whether large communities count in export policy if the configuration does not say so.
+const DEFAULT_LARGE_COMMUNITIES: bool = false;
+
+/// Reads the server out of the configuration's table, and whether large communities (RFC 8092) count in export
+/// policy.
+pub fn read_server(alloc: Global, top: &Section) -> Result<(Local, bool), SetupFault>
     ensures { IfOk result (Needs (members_in top.now) (codes "server") IsServer) }
 {
     let value = top.needs(alloc, "server")?;
     let table = top.valid(alloc, "server", value.as_table())?;
     let server = Section::new(Place::Server, table);
-    server.has_only(alloc, &["address", "as", "id", "subnet"])?;
+    server.has_only(
+        alloc,
+        &["address", "as", "id", "large_communities", "subnet"],
+    )?;
     let asn = server.whole_number(alloc, "as")?;
     let address = server.address(alloc, "address")?;
     let id = server.address_or(alloc, "id", address)?;
     let subnet = server.subnet(alloc, "subnet")?;
-    Ok(Local {
+    let large_communities = server.boolean_or(
+        alloc,
+        "large_communities",
+        DEFAULT_LARGE_COMMUNITIES,
+    )?;
+    let local = Local {
         asn,
         address,
         id,
         subnet,
-    })
+    };
+    Ok((local, large_communities))
 }
 
 /// Reads the peers and the paths of their files, in order, out of the configuration's table.

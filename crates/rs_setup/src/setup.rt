@@ -22,7 +22,7 @@ use toml::Table;
 /// What a configuration sets up.
 #[derive(Drop)]
 pub struct Setup {
-    /// The server, its peers and their policies.
+    /// The server, its peers and their policies, and whether large communities (RFC 8092) count in export policy.
     pub plan: Arc<Exchange>,
     /// The path of each peer's recorded file, in the order of the peers.
     pub files: Vec<String>,
@@ -90,9 +90,10 @@ pub fn read_setup(alloc: Global, text: &[u8]) -> Result<Setup, SetupFault>
     let table = read_table(alloc, text)?;
     let top = Section::new(Place::Top, &table);
     top.has_only(alloc, &["peer", "server"])?;
-    let local = read_server(alloc, &top)?;
+    let (local, large_communities) = read_server(alloc, &top)?;
     let (peers, files) = read_peers(alloc, &top)?;
-    let plan = Arc::new(alloc, Exchange::new(alloc, local, peers)?)?;
+    let exchange = Exchange::new(alloc, local, peers)?.with_large_communities(large_communities);
+    let plan = Arc::new(alloc, exchange)?;
     Ok(Setup { plan, files })
 }
 
