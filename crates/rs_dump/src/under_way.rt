@@ -1,7 +1,7 @@
 //! A dump that is being written, record by record.
 //!
 //! Our choices: records are spelled in one buffer, which is taken before the first write. It is written in pieces of
-//! 64 KiB or more, and nothing is flushed.
+//! about 64 KiB, and nothing is flushed.
 
 ghost use Rattle.std.specs.Prelude.{◌≡◌, ◌+◌, ◌<◌, ◌≤◌, [], ◌++◌, All, length, map, IfOk, OnOk, OnErr};
 ghost use Rattle.std.specs.Prelude.{vec_capacity};
@@ -18,7 +18,7 @@ use rs_records::{MAX_ROW_LEN, RibEntry, spell_peer_index, spell_row};
 use rs_table::Row;
 use std::alloc::{AllocError, Global};
 
-// How many octets wait, at least, before they are written: all pieces but the last have so many.
+// Octets that wait are written once there are so many, or would be with the attributes of the next rows.
 const PIECE_LEN: usize = 65536;
 
 // How many octets the buffer has room for: room for any record is left if fewer than a piece wait.
