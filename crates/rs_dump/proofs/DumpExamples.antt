@@ -33,6 +33,7 @@ exchange peers =
     record {
       local = record { asn = 64500; address = 0xC0000201; id = 0xC0000201; subnet = Some (record { address = 0xC0000200; len = 24 }) };
       peers = peers;
+      large_communities = false;
     }
 
 -- ---- routes of a

@@ -88,6 +88,7 @@ four_peers = record {
       };
   peers =
       peer_at 64501 3221225995 ∷ peer_at 64502 3221225996 ∷ peer_at 64503 3221225997 ∷ peer_at 64504 3221225998 ∷ [];
+  large_communities = false;
 }
 
 -- attributes with this path, NEXT_HOP 192.0.2.11 and these communities
