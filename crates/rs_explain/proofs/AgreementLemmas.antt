@@ -1,6 +1,6 @@
 -- Explanations and answers.
 use Rattle.std.proofs.Common.{◌≡◌, ap, refl, ℕ, ◌<◌, ◌==◌, Bool, true, false, not, cond, [], ◌∷◌, length, inl, inr}
-use Rattle.std.specs.Prelude.{Option, None, Some, MatchOption, is_none, ◌&&◌}
+use Rattle.std.specs.Prelude.{Option, None, Some, MatchOption, is_none, ◌&&◌, ◌||◌}
 use Rattle.std.specs.Option.{option_map, option_or, option_and_then}
 use Rattle.std.specs.FinMap.{get}
 use Rattle.std.proofs.lemmas.Bool.{cases_Bool}
@@ -10,7 +10,7 @@ use Rattle.rs_update.specs.Community.{has_community_in}
 use Rattle.rs_update.specs.PathAttributes.{PathAttributes}
 use Rattle.rs_choice.specs.Eligibility.{is_eligible, is_on_exchange}
 use Rattle.rs_choice.specs.Plan.{Plan}
-use Rattle.rs_choice.specs.Policy.{is_permitted}
+use Rattle.rs_choice.specs.Policy.{has_large, is_permitted}
 use Rattle.rs_choice.specs.Refusal.{refuses}
 use Rattle.rs_table.specs.declared.why.Why.{Why}
 use Rattle.rs_table.specs.declared.why.Why.TheVariants as answers
@@ -40,14 +40,18 @@ eligible_unless plan number attributes known =
     rw sender.1 (by_conditions (holds_as_in attributes.path plan.local.asn) (attributes.next_hop == plan.local.address)
     (is_on_exchange plan.local.subnet sender.0.address attributes.next_hop) _ _ _)
 
-by_rules : {C : Type 0} (n a b c : Bool) (x y z : C) →
-    cond n false (cond a false (cond b true (cond c false true)))
-    ≡ is_none (option_and_then (λ (r : Option C). r) (first_answer ((n, Some x) ∷ (a, Some y) ∷ (b, None) ∷ (c, Some z) ∷ [])))
-by_rules true a b c x y z = refl
-by_rules false true b c x y z = refl
-by_rules false false true c x y z = refl
-by_rules false false false true x y z = refl
-by_rules false false false false x y z = refl
+by_rules : {C : Type 0} (n a l b m c k : Bool) (v w x y z : C) →
+    cond n false (cond (a || l) false (cond (b || m) true (cond (c || k) false true)))
+    ≡ is_none (option_and_then (λ (r : Option C). r) (first_answer ((n, Some v) ∷ (a, Some w) ∷ (l, Some x) ∷ (b, None)
+    ∷ (m, None) ∷ (c, Some y) ∷ (k, Some z) ∷ [])))
+by_rules true a l b m c k v w x y z = refl
+by_rules false true l b m c k v w x y z = refl
+by_rules false false true b m c k v w x y z = refl
+by_rules false false false true m c k v w x y z = refl
+by_rules false false false false true c k v w x y z = refl
+by_rules false false false false false true k v w x y z = refl
+by_rules false false false false false false true v w x y z = refl
+by_rules false false false false false false false v w x y z = refl
 
 -- a route of another peer is permitted where no rule refuses it
 pub permitted_unless : (plan : Plan) (client number : ℕ) (attributes : PathAttributes) → client < length plan.peers
@@ -57,8 +61,9 @@ permitted_unless plan client number attributes client_known known differ =
     let receiver = some_at plan.peers client client_known in
     let sender = some_at plan.peers number known in
     rw (receiver.1, sender.1, differ) (by_rules (refuses receiver.0 sender.0) (has_community_in attributes.communities 0 receiver.0.asn)
-    (has_community_in attributes.communities plan.local.asn receiver.0.asn) (has_community_in attributes.communities 0 plan.local.asn)
-    _ _ _)
+    (has_large plan attributes 0 receiver.0.asn) (has_community_in attributes.communities plan.local.asn receiver.0.asn)
+    (has_large plan attributes 1 receiver.0.asn) (has_community_in attributes.communities 0 plan.local.asn)
+    (has_large plan attributes 0 0) _ _ _ _ _)
 
 agree_left : (explanation : Explanation) (decided : Type 0) (otherwise : Why) (f : Option Condition) (r : Option Refusal)
     (eligible permitted : Bool) →

@@ -9,8 +9,7 @@ use Rattle.rs_explain.specs.Reasons.{refusal_of, ruling}
 
 pub refusal_of-known : (plan : Plan) (client number : ℕ) (attributes : PathAttributes) (one : Peer) (by_name : Bool) →
     slice_get plan.peers client ≡ Some one → number < length plan.peers → IsRefusal plan.peers client number by_name →
-    ruling by_name plan.local.asn one.asn attributes.communities ≡ refusal_of plan client number attributes
+    ruling plan by_name one.asn attributes ≡ refusal_of plan client number attributes
 refusal_of-known plan client number attributes one by_name at_one known says =
     let other = some_at plan.peers number known in
-    rw (at_one, other.1) (ap (λ (named : Bool). ruling named plan.local.asn one.asn attributes.communities)
-    (says one other.0 at_one other.1))
+    rw (at_one, other.1) (ap (λ (named : Bool). ruling plan named one.asn attributes) (says one other.0 at_one other.1))

@@ -4,16 +4,19 @@ use Rattle.rs_explain.specs.declared.explanation.Explanation.{Explanation}
 use Rattle.rs_explain.specs.declared.explanation.Explanation.TheVariants as explanations
 use Rattle.rs_explain.specs.declared.missing_reason.MissingReason.{MissingReason}
 use Rattle.rs_explain.specs.declared.missing_reason.MissingReason.TheVariants.{Ineligible, RefusedByName}
-use Rattle.rs_explain.specs.declared.missing_reason.MissingReason.TheVariants.{RefusedByCommunity, Lost}
+use Rattle.rs_explain.specs.declared.missing_reason.MissingReason.TheVariants.{RefusedByCommunity}
+use Rattle.rs_explain.specs.declared.missing_reason.MissingReason.TheVariants.{RefusedByLargeCommunity, Lost}
 use Rattle.rs_explain.specs.declared.refusal.Refusal.{Refusal}
-use Rattle.rs_explain.specs.declared.refusal.Refusal.TheVariants.{ByName, ToClient, ToAll}
+use Rattle.rs_explain.specs.declared.refusal.Refusal.TheVariants.{ByName, ToClient, LargeToClient, ToAll, LargeToAll}
 use Rattle.rs_explain.specs.Reasons.{kind_of}
 
 -- a refusing rule as a reason
 abbrev pub reason_of_refusal : Refusal → MissingReason
 reason_of_refusal ByName = RefusedByName
 reason_of_refusal (ToClient asn) = RefusedByCommunity
+reason_of_refusal (LargeToClient server client) = RefusedByLargeCommunity
 reason_of_refusal (ToAll asn) = RefusedByCommunity
+reason_of_refusal (LargeToAll asn) = RefusedByLargeCommunity
 
 -- the reason in an explanation
 abbrev pub reason_in : Explanation → Option MissingReason

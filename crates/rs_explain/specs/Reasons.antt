@@ -5,17 +5,18 @@ use Rattle.std.specs.Prelude.{ℕ, ◌==◌, Bool, not, if◌then◌else◌, Lis
 use Rattle.std.specs.Option.{option_and_then}
 use Rattle.rs_update.specs.AsPath.{holds_as_in}
 use Rattle.rs_update.specs.Community.{has_community_in}
-use Rattle.rs_update.specs.PathAttributes.{PathAttributes, CommunityList}
+use Rattle.rs_update.specs.PathAttributes.{PathAttributes}
 use Rattle.rs_choice.specs.declared.plan.Local.{Local}
 use Rattle.rs_choice.specs.Eligibility.{is_on_exchange}
 use Rattle.rs_choice.specs.Plan.{Peer, Plan}
+use Rattle.rs_choice.specs.Policy.{has_large}
 use Rattle.rs_choice.specs.Refusal.{refuses}
 use Rattle.rs_explain.specs.declared.condition.Condition.{Condition}
 use Rattle.rs_explain.specs.declared.condition.Condition.TheVariants.{OwnAs, ServerAsNextHop, NextHopOffExchange}
 use Rattle.rs_explain.specs.declared.condition.ConditionKind.{ConditionKind}
 use Rattle.rs_explain.specs.declared.condition.ConditionKind.TheVariants as kinds
 use Rattle.rs_explain.specs.declared.refusal.Refusal.{Refusal}
-use Rattle.rs_explain.specs.declared.refusal.Refusal.TheVariants.{ByName, ToClient, ToAll}
+use Rattle.rs_explain.specs.declared.refusal.Refusal.TheVariants.{ByName, ToClient, LargeToClient, ToAll, LargeToAll}
 
 -- each test stands with an answer; the answer is that of the first test that succeeds
 abbrev pub first_answer : {A : Type 0} → List (Bool × A) → Option A
@@ -41,24 +42,27 @@ kind_of (OwnAs asn) = kinds.OwnAs
 kind_of (ServerAsNextHop address) = kinds.ServerAsNextHop
 kind_of (NextHopOffExchange address) = kinds.NextHopOffExchange
 
--- The rules in their order, for a client of this AS number, and for a route with these communities. The first
--- argument says whether the client refuses all routes of the sender. Each rule stands with the test that it applies;
--- it refuses the route or permits it.
-abbrev pub rules : Bool → ℕ → ℕ → Option CommunityList → List (Bool × Option Refusal)
-rules by_name local_asn client_asn communities =
+-- The rules in their order, for a client of this AS number and a route with these attributes. The Boolean says whether
+-- the client refuses all routes of the sender. Each rule stands with the test that it applies; it refuses the route or
+-- permits it.
+abbrev pub rules : Plan → Bool → ℕ → PathAttributes → List (Bool × Option Refusal)
+rules plan by_name client_asn attributes =
     (by_name, Some ByName)
-    ∷ (has_community_in communities 0 client_asn, Some (ToClient client_asn))
-    ∷ (has_community_in communities local_asn client_asn, None)
-    ∷ (has_community_in communities 0 local_asn, Some (ToAll local_asn)) ∷ []
+    ∷ (has_community_in attributes.communities 0 client_asn, Some (ToClient client_asn))
+    ∷ (has_large plan attributes 0 client_asn, Some (LargeToClient plan.local.asn client_asn))
+    ∷ (has_community_in attributes.communities plan.local.asn client_asn, None)
+    ∷ (has_large plan attributes 1 client_asn, None)
+    ∷ (has_community_in attributes.communities 0 plan.local.asn, Some (ToAll plan.local.asn))
+    ∷ (has_large plan attributes 0 0, Some (LargeToAll plan.local.asn)) ∷ []
 
 -- the first rule that applies decides
-abbrev pub ruling : Bool → ℕ → ℕ → Option CommunityList → Option Refusal
-ruling by_name local_asn client_asn communities =
-    option_and_then (λ ruling. ruling) (first_answer (rules by_name local_asn client_asn communities))
+abbrev pub ruling : Plan → Bool → ℕ → PathAttributes → Option Refusal
+ruling plan by_name client_asn attributes =
+    option_and_then (λ ruling. ruling) (first_answer (rules plan by_name client_asn attributes))
 
 -- the refusal of a sender's route to a client, by their numbers
 abbrev pub refusal_of : Plan → ℕ → ℕ → PathAttributes → Option Refusal
 refusal_of plan client number attributes =
     option_and_then (λ receiver. option_and_then
-    (λ sender. ruling (refuses receiver sender) plan.local.asn receiver.asn attributes.communities)
+    (λ sender. ruling plan (refuses receiver sender) receiver.asn attributes)
     (slice_get plan.peers number)) (slice_get plan.peers client)

@@ -1,7 +1,7 @@
 //! The reason for which a client does not get a route, without what belongs to it.
 
 ghost use Rattle.std.specs.Prelude.{◌≡◌};
-ghost use Rattle.rs_explain.specs.MissingReasons.{reason_in};
+ghost use Rattle.rs_explain.specs.MissingReasons.{reason_in, reason_of_refusal};
 
 use crate::condition::ConditionKind;
 use crate::explanation::Explanation;
@@ -17,6 +17,8 @@ pub enum MissingReason {
     RefusedByName,
     /// A community of the route refuses it.
     RefusedByCommunity,
+    /// A large community of the route refuses it.
+    RefusedByLargeCommunity,
     /// This step of the decision process removes it.
     Lost(Step),
 }
@@ -32,10 +34,22 @@ impl MissingReason {
             Explanation::Ineligible(condition) => {
                 Some(MissingReason::Ineligible(condition.kind()))
             }
-            Explanation::Refused(Refusal::ByName) => Some(MissingReason::RefusedByName),
-            Explanation::Refused(_) => Some(MissingReason::RefusedByCommunity),
+            Explanation::Refused(refusal) => Some(reason_of_refusal(*refusal)),
             Explanation::Best(_) => None,
             Explanation::Lost(removal) => Some(MissingReason::Lost(removal.step)),
         }
+    }
+}
+
+// A refusing rule as a reason.
+fn reason_of_refusal(refusal: Refusal) -> MissingReason
+    ensures { result ≡ reason_of_refusal refusal }
+{
+    match refusal {
+        Refusal::ByName => MissingReason::RefusedByName,
+        Refusal::ToClient(_) => MissingReason::RefusedByCommunity,
+        Refusal::LargeToClient { .. } => MissingReason::RefusedByLargeCommunity,
+        Refusal::ToAll(_) => MissingReason::RefusedByCommunity,
+        Refusal::LargeToAll(_) => MissingReason::RefusedByLargeCommunity,
     }
 }

@@ -111,10 +111,11 @@ server_once keys x y large other h k =
     let address : x.address ≡ y.address = found_once IsAddress address_once (get_member (codes "address") keys) _ _ h.address k.address in
     let id : x.id ≡ y.id = default_once IsAddress address_once (get_member (codes "id") keys) _ _ _ _ address h.id k.id in
     let subnet : x.subnet ≡ y.subnet =
-    default_once IsSomeSubnet some_subnet_once (get_member (codes "subnet") keys) _ _ _ _ refl h.subnet k.subnet in (
-      λ i. record { asn = asn i; address = address i; id = id i; subnet = subnet i },
-      default_once IsBoolean boolean_once (get_member (codes "large_communities") keys) _ _ _ _ refl h.large_communities k.large_communities,
-    )
+    default_once IsSomeSubnet some_subnet_once (get_member (codes "subnet") keys) _ _ _ _ refl h.subnet k.subnet in
+    let counted : large ≡ other =
+    default_once IsBoolean boolean_once (get_member (codes "large_communities") keys) _ _ _ _ refl h.large_communities
+    k.large_communities in
+    (λ i. record { asn = asn i; address = address i; id = id i; subnet = subnet i }, counted)
 
 peer_once : (keys : Members) (x y : Peer) (file other : List ℕ) → IsPeerOf keys x file → IsPeerOf keys y other → (x ≡ y) × (file ≡ other)
 peer_once keys x y file other h k =

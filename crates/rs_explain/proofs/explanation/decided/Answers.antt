@@ -2,11 +2,13 @@
 use Rattle.std.proofs.Common.{◌≡◌, ◌∙◌, ap, sym, subst, List}
 use Rattle.std.specs.Prelude.{None}
 use Rattle.std.specs.List.{All, Contains}
+use Rattle.std.proofs.lemmas.Bool.{ne_eqb}
 use Rattle.rs_choice.specs.Decision.{choice, decision_steps, remaining}
 use Rattle.rs_choice.specs.Plan.{Plan, plan_fault}
 use Rattle.rs_table.specs.Table.{best_of}
 use Rattle.rs_explain.specs.declared.contender.Contender.{Contender}
 use Rattle.rs_explain.specs.Contenders.{contender_of, contenders_of, standing_in, HasOwnAddress}
+use Rattle.rs_explain.specs.Removals.{IsRemoval}
 use Rattle.rs_explain.proofs.BestLemmas.{best_contender, left_is_best, made_of}
 use Rattle.rs_explain.proofs.explanation.decided.Goals as goal
 
@@ -31,3 +33,22 @@ unreachable-requires-in-None c =
     c.if-best-one.false (ap (λ (one : Contender). one.peer) (sym best.2)
     ∙ left_is_best c.peers_have_addresses_of_their_own.ensures tables c.args.client c.args.prefix best.0 c.args.one faultless all best.1
     left)
+
+pub returns : goal.returns
+returns c =
+    let tables = c.args.tables.now in
+    let loser = c.args.one in
+    let removal = c.in-Some-removed_by.removal in
+    let best = made_of (contender_of tables.plan) (best_of tables c.args.client c.args.prefix) c.in-Some.best
+    (sym c.requires.candidates.best ∙ c.in-Some.is) in
+    record {
+      loser = loser;
+      best = best.0;
+      is_candidate = c.requires.candidate;
+      gets = best.1;
+      another = ne_eqb best.0.peer loser.peer (λ same. c.if-best-one.false (ap (λ (one : Contender). one.peer) (sym best.2) ∙ same));
+      steps = subst (λ (set : List Contender). IsRemoval decision_steps set (contender_of tables.plan best.0) loser removal)
+          (c.deref-2.ensures.value ∙ c.requires.candidates.all.value)
+          (subst (λ (one : Contender). IsRemoval decision_steps c.deref-2.result.now one loser removal) (sym best.2)
+          c.in-Some-removed_by.ensures);
+    }
