@@ -20,6 +20,8 @@ def configuration(server, peers, names):
     lines = ["[server]", f"as = {server.asn}", f'address = "{text_of(server.address)}"', f'id = "{text_of(server.id)}"']
     if server.subnet:
         lines.append(f'subnet = "{text_of(server.subnet[0])}/{server.subnet[1]}"')
+    if server.large_communities:
+        lines.append("large_communities = true")
     for peer, name in zip(peers, names):
         lines += ["[[peer]]", f'name = "{peer.name}"', f"as = {peer.asn}", f'address = "{text_of(peer.address)}"', f'id = "{text_of(peer.id)}"']
         lines += [f"preference = {peer.preference}", f"refuse_from = {list(peer.refuse_from)}".replace("'", '"'), f'file = "{name}"']
@@ -47,7 +49,8 @@ class Bench:
         ran = subprocess.run(line, cwd=self.folder.name, capture_output=True)
         report, dumps = slow_reading.outcome(server, peers, [octets for _, octets in files], time, errors)
         told, strict = ran.stderr.decode(errors="replace"), "--strict-after" in words
-        clean = not strict or not told and all(line.endswith(" close end") for line in report.splitlines() if line.startswith("peer "))
+        reasons = [line for line in told.splitlines() if not re.search(NO_REASON, line)]
+        clean = not strict or not reasons and all(line.endswith(" close end") for line in report.splitlines() if line.startswith("peer "))
         if ran.returncode != (0 if clean else 5) or wrong_notes(server, peers, report, files, told, strict):
             return f"status {ran.returncode}: {told}"
         if ran.stdout.decode() != report:
@@ -60,7 +63,9 @@ class Bench:
 
 
 # What a strict run may tell beside what is judged here.
-DOUBTS = r"(\S+ is empty|their files are empty|a loss at .*|losses are recorded .*|.* not read.*)"
+DOUBTS = r"(\S+ is empty|their files are empty|a loss at .*|losses are recorded .*|.* not read.*|large communities .*)"
+# And what is no reason for its status.
+NO_REASON = r"note: peers? [\w, ]+: large communities 64500:\*:\* have no effect "
 
 
 def wrong_notes(server, peers, report, files, told, strict):

@@ -1,12 +1,14 @@
 """A slow reading of recorded sessions, to judge the program by: written from the standards and the formats alone, one definition after another, each over whole
 lists. Nothing here is fast, and nothing is taken from the program.
 
-RFC 6396 (records, dumps), RFC 4271 (messages, faults, decision), RFC 7606 (faults handled otherwise), RFC 1997 (communities), RFC 7947 (one table a client).
+RFC 6396 (records, dumps), RFC 4271 (messages, faults, decision), RFC 7606 (faults handled otherwise), RFC 1997 (communities), RFC 8092 (large communities),
+RFC 7947 (one table a client).
 """
 
 from collections import namedtuple
 
-Server = namedtuple("Server", "asn address id subnet")  # subnet: (address, length) or None
+# subnet: (address, length) or None; large_communities: whether policy reads large communities
+Server = namedtuple("Server", "asn address id subnet large_communities", defaults=(False,))
 Peer = namedtuple("Peer", "name asn address id preference refuse_from")
 Record = namedtuple("Record", "time type subtype body")
 Change = namedtuple("Change", "time kind prefix attributes reason")  # kind: announce, withdraw, down, close
@@ -319,6 +321,14 @@ def communities(route):
     return {number(value[at : at + 4]) for at in range(0, len(value), 4)}
 
 
+def large_communities(route):
+    """The large communities of a route; none where the value is no list of them (ours: it is no fault)."""
+    value = route.attributes[32][2] if 32 in route.attributes else b""
+    if len(value) % 12:
+        return set()
+    return {tuple(number(value[at + part : at + part + 4]) for part in (0, 4, 8)) for at in range(0, len(value), 12)}
+
+
 def is_eligible(server, peer, route):
     next_hop = number(route.attributes[3][2])
     if any(server.asn in numbers for _, numbers in path(route)) or next_hop == server.address:
@@ -333,9 +343,14 @@ def is_permitted(server, client, peer, route):
     def has(high, low):
         return high < 65536 and low < 65536 and high * 65536 + low in communities(route)
 
-    if peer.name in client.refuse_from or has(0, client.asn):
+    def has_large(first, second):
+        return server.large_communities and (server.asn, first, second) in large_communities(route)
+
+    if peer.name in client.refuse_from or has(0, client.asn) or has_large(0, client.asn):
         return False
-    return has(server.asn, client.asn) or not has(0, server.asn)
+    if has(server.asn, client.asn) or has_large(1, client.asn):
+        return True
+    return not (has(0, server.asn) or has_large(0, 0))
 
 
 def path_length(route):

@@ -3,7 +3,8 @@
 //!
 //! Our choices: each file is read twice, however many peers name it, and once more for each of its sessions that may close
 //! before its end. It is read within the bounds and by the standard of the run. The notes are those of a run, made of
-//! what the first reading tells. A tail that is left out as asked for has its note, and is no reason for a status.
+//! what the first reading tells. What was asked for, as a tail that is left out, has its note and is no reason for a
+//! status.
 
 use crate::checked_peer::add_peer;
 use crate::recordings::inventory_at;
@@ -25,8 +26,8 @@ const CLOSE_ALONE: u64 = 1;
 
 /// Tells what a run over a configuration would meet that reads its files within bounds and by a standard. The status is
 /// 0 if the run would be clean. It is 1 if the configuration would be refused, and 2 if a file would fail. It is 5 if a
-/// session would close before the end of its file, or if there would be a note. A note on a tail that is left out as
-/// asked for doesn't count.
+/// session would close before the end of its file, or if there would be a note. A note on what was asked for doesn't
+/// count.
 pub fn check<R: AllocGlobal + Files + Env>(
     rt: &R,
     query: &CheckQuery,
@@ -138,7 +139,7 @@ fn check_contents<R: AllocGlobal + Files>(
     ))
 }
 
-// Adds the notes. Answers whether there is any, but for one on tails that are left out as asked for.
+// Adds the notes. Answers whether there is any, but for those on what was asked for.
 fn add_notes<R: AllocGlobal + Files>(
     rt: &R,
     text: &mut String,

@@ -44,6 +44,10 @@ fn hand_values(row: &mut RowWriter<'_>, plan: &Exchange, peer: usize, explanatio
         Explanation::Refused(Refusal::ByName) => row.text("name", name_at(plan, peer)),
         Explanation::Refused(Refusal::ToClient(asn)) => hand_community(row, *asn),
         Explanation::Refused(Refusal::ToAll(asn)) => hand_community(row, *asn),
+        Explanation::Refused(Refusal::LargeToClient { server, client }) => {
+            hand_large_community(row, *server, *client);
+        }
+        Explanation::Refused(Refusal::LargeToAll(server)) => hand_large_community(row, *server, 0),
         Explanation::Lost(removal) => hand_removal(row, plan, removal),
         _ => {}
     }
@@ -53,6 +57,12 @@ fn hand_values(row: &mut RowWriter<'_>, plan: &Exchange, peer: usize, explanatio
 fn hand_community(row: &mut RowWriter<'_>, asn: u32) {
     let alloc = row.alloc();
     row.made("community", format!(in alloc; "0:{asn}"));
+}
+
+// Hands over the large community that refuses a route to a client of this AS number, or to all clients if that is 0.
+fn hand_large_community(row: &mut RowWriter<'_>, server: u32, client: u32) {
+    let alloc = row.alloc();
+    row.made("large_community", format!(in alloc; "{server}:0:{client}"));
 }
 
 // Hands over what the step that removed a route compared, and the peer whose route beat it there.

@@ -32,11 +32,12 @@ pub fn reason_answer(reason: MissingReason) -> &'static str {
         MissingReason::Ineligible(_) => INELIGIBLE,
         MissingReason::RefusedByName => REFUSED,
         MissingReason::RefusedByCommunity => REFUSED,
+        MissingReason::RefusedByLargeCommunity => REFUSED,
         MissingReason::Lost(_) => LOST,
     }
 }
 
-/// The key of the reason for which a client does not get a route.
+/// The key of the reason for which a client does not get a route. It is the same for a community and a large one.
 pub fn reason_key(reason: MissingReason) -> &'static str {
     match reason {
         MissingReason::Ineligible(ConditionKind::OwnAs) => SERVER_AS_IN_PATH,
@@ -44,6 +45,7 @@ pub fn reason_key(reason: MissingReason) -> &'static str {
         MissingReason::Ineligible(ConditionKind::NextHopOffExchange) => NEXT_HOP_OFF_EXCHANGE,
         MissingReason::RefusedByName => REFUSED_BY_NAME,
         MissingReason::RefusedByCommunity => REFUSED_BY_COMMUNITY,
+        MissingReason::RefusedByLargeCommunity => REFUSED_BY_COMMUNITY,
         MissingReason::Lost(step) => step_key(step),
     }
 }
@@ -139,6 +141,12 @@ impl fmt::Display for Because<'_> {
             }
             Explanation::Refused(Refusal::ToClient(asn)) => write_community(f, *asn),
             Explanation::Refused(Refusal::ToAll(asn)) => write_community(f, *asn),
+            Explanation::Refused(Refusal::LargeToClient { server, client }) => {
+                write_large_community(f, *server, *client)
+            }
+            Explanation::Refused(Refusal::LargeToAll(server)) => {
+                write_large_community(f, *server, 0)
+            }
             Explanation::Lost(removal) => write_removal(f, plan, removal),
             _ => Ok(()),
         }
@@ -148,6 +156,15 @@ impl fmt::Display for Because<'_> {
 // Writes the community that refuses a route.
 fn write_community<W: fmt::Write>(f: &mut fmt::Formatter<W>, asn: u32) -> fmt::Result {
     write!(f, "community 0:{asn}")
+}
+
+// Writes the large community that refuses a route to a client of this AS number, or to all clients if that is 0.
+fn write_large_community<W: fmt::Write>(
+    f: &mut fmt::Formatter<W>,
+    server: u32,
+    client: u32,
+) -> fmt::Result {
+    write!(f, "large community {server}:0:{client}")
 }
 
 // Writes the condition of eligibility that fails.

@@ -25,7 +25,7 @@ fn count_columns(names: usize) -> [Column; 5] {
     ]
 }
 
-// The reasons, in the order in which they are listed.
+// The reasons, in the order in which they are listed. The row of communities counts large ones too.
 const REASONS: [MissingReason; 11] = [
     MissingReason::Ineligible(ConditionKind::OwnAs),
     MissingReason::Ineligible(ConditionKind::ServerAsNextHop),
@@ -68,13 +68,36 @@ fn hand_sender(
     requires { peer < counts.now.peers }
 {
     for reason in REASONS {
-        let count = counts.count(Finding::Missing(peer, reason));
-        if count > 0 && wanted.asks_for(reason) {
+        let count = count_of_row(wanted, counts, peer, reason);
+        if count > 0 {
             hand_peer(rows, plan, peer);
             rows.text("answer", reason_answer(reason));
             rows.text("reason", reason_key(reason));
             rows.number("routes", count);
             rows.end_row();
         }
+    }
+}
+
+// How many routes of a sender the row of a reason counts.
+fn count_of_row(wanted: Wanted, counts: &Tally, peer: usize, reason: MissingReason) -> u64
+    requires { peer < counts.now.peers }
+{
+    let count = count_wanted(wanted, counts, peer, reason);
+    if reason != MissingReason::RefusedByCommunity {
+        return count;
+    }
+    let large = MissingReason::RefusedByLargeCommunity;
+    count.saturating_add(count_wanted(wanted, counts, peer, large))
+}
+
+// How many routes of a sender have a reason, if that is wanted.
+fn count_wanted(wanted: Wanted, counts: &Tally, peer: usize, reason: MissingReason) -> u64
+    requires { peer < counts.now.peers }
+{
+    if wanted.asks_for(reason) {
+        counts.count(Finding::Missing(peer, reason))
+    } else {
+        0
     }
 }

@@ -38,10 +38,16 @@ fn is_of(reason: MissingReason, asked: AskedReason) -> bool {
         }
         AskedReason::Refused => matches!(
             reason,
-            MissingReason::RefusedByName | MissingReason::RefusedByCommunity
+            MissingReason::RefusedByName
+                | MissingReason::RefusedByCommunity
+                | MissingReason::RefusedByLargeCommunity
         ),
         AskedReason::RefusedByName => reason == MissingReason::RefusedByName,
-        AskedReason::RefusedByCommunity => reason == MissingReason::RefusedByCommunity,
+        AskedReason::RefusedByCommunity => matches!(
+            reason,
+            MissingReason::RefusedByCommunity | MissingReason::RefusedByLargeCommunity
+        ),
+        AskedReason::RefusedByLargeCommunity => reason == MissingReason::RefusedByLargeCommunity,
         AskedReason::Lost => matches!(reason, MissingReason::Lost(_)),
         AskedReason::Preference => reason == MissingReason::Lost(Step::Preference),
         AskedReason::PathLength => reason == MissingReason::Lost(Step::PathLength),

@@ -1,15 +1,18 @@
 //! The notes on what is lawful and yet suspicious in the records of peers. An empty file, and records that are all later
-//! than what is read. A recording that begins in mid-session, and a session that began again without a recorded loss. A
-//! loss that is recorded with the address of no peer.
+//! than what is read. Messages that aren't read, and large communities of the server without an effect. A recording that
+//! begins in mid-session, and a session that began again without a recorded loss. A loss that is recorded with the
+//! address of no peer.
 //!
-//! Our choice: a session gets such a note only if it did not close before the end of its file. If it did, its routes are
-//! gone.
+//! Our choices: a session gets such a note only if it did not close before the end of its file. If it did, its routes are
+//! gone. Without `large_communities` the configuration asks for large communities to have no effect, so the note on them
+//! is no reason for a status.
 
 use crate::contents::Contents;
 use crate::group::{Detail, Group, Told};
 use crate::lost::{Lost, lost_of};
 use crate::note::{
-    again_line, at_text, empty_text, first_text, inside_line, lost_text, unread_text, up_to_text,
+    again_line, at_text, empty_text, first_text, inside_line, large_text, lost_text,
+    no_effect_text, unread_text, up_to_text,
 };
 use crate::notes::Notes;
 use crate::peers::peer_of;
@@ -24,8 +27,9 @@ pub(crate) struct Doubts<'a> {
     // Peers whose files are empty, and peers whose records are all later than what is read.
     empty: Group<'a>,
     later: Group<'a>,
-    // Peers of which messages aren't read.
+    // Peers of which messages aren't read, and peers whose large communities of the server have no effect.
     unread: Group<'a>,
+    large: Group<'a>,
     // Three groups of peers: those whose recordings begin in mid-session, and those whose session began again
     // without a recorded loss. The third are those of which a loss is recorded with the address of no peer.
     inside: Group<'a>,
@@ -40,6 +44,7 @@ impl<'a> Doubts<'a> {
             empty: Group::none(alloc),
             later: Group::none(alloc),
             unread: Group::none(alloc),
+            large: Group::none(alloc),
             inside: Group::none(alloc),
             again: Group::none(alloc),
             lost: Group::none(alloc),
@@ -66,11 +71,22 @@ impl<'a> Doubts<'a> {
         }
     }
 
-    /// Takes how many messages of a peer aren't read.
-    pub(crate) fn take_unread(&mut self, alloc: Global, spec: &'a PeerSpec, unread: Unread) {
+    /// Takes how many messages of a peer aren't read, and how many have large communities without an effect.
+    pub(crate) fn take_unread(
+        &mut self,
+        alloc: Global,
+        subject: Subject<'a>,
+        spec: &'a PeerSpec,
+        unread: Unread,
+    ) {
+        let plan = &subject.setup.plan;
         if !unread.is_none() {
             self.unread
                 .add(&spec.name, unread_told(alloc, &spec.name, unread));
+        }
+        if unread.large > 0 && !plan.counts_large_communities() {
+            let told = large_told(alloc, &spec.name, plan.local().asn, unread.large);
+            self.large.add(&spec.name, told);
         }
     }
 
@@ -113,6 +129,9 @@ impl<'a> Doubts<'a> {
             }
         }
         notes.add_group(alloc, &self.unread, "messages of them are not read");
+        if let Ok(several) = no_effect_text(alloc, subject.setup.plan.local().asn) {
+            notes.add_group_as_asked(alloc, &self.large, &several);
+        }
         notes.add_group(
             alloc,
             &self.inside,
@@ -154,6 +173,15 @@ fn unread_told(alloc: Global, name: &str, unread: Unread) -> Result<Told, AllocE
     let detail = unread_text(alloc, unread)?;
     Ok(Told {
         line: format!(in alloc; "peer {name}: messages of it are not read: {detail}")?,
+        detail: Detail::Part(detail),
+    })
+}
+
+// The note on a peer of which so many UPDATEs have large communities of a server, which have no effect.
+fn large_told(alloc: Global, name: &str, server: u32, updates: u64) -> Result<Told, AllocError> {
+    let (no_effect, detail) = (no_effect_text(alloc, server)?, large_text(alloc, updates)?);
+    Ok(Told {
+        line: format!(in alloc; "peer {name}: {no_effect} ({detail})")?,
         detail: Detail::Part(detail),
     })
 }

@@ -209,6 +209,18 @@ pub(crate) fn unread_text(alloc: Global, unread: Unread) -> Result<String, Alloc
     Ok(text)
 }
 
+/// That large communities of a server of this AS number have no effect.
+pub(crate) fn no_effect_text(alloc: Global, server: u32) -> Result<String, AllocError> {
+    format!(in alloc;
+        "large communities {server}:*:* have no effect without large_communities = true"
+    )
+}
+
+/// How many UPDATEs have such large communities.
+pub(crate) fn large_text(alloc: Global, updates: u64) -> Result<String, AllocError> {
+    format!(in alloc; "UPDATEs with them: {updates}")
+}
+
 // Adds how many messages are of a kind, if there are any.
 fn add_count(text: &mut String, count: u64, kind: &str) -> Result<(), AllocError> {
     if count == 0 {

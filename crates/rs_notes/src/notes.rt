@@ -28,7 +28,8 @@ pub(crate) const CLOSE_ALONE: u64 = 1;
 pub struct Notes {
     /// Their texts, without those for which memory was refused.
     pub texts: Vec<String>,
-    /// Whether there is any, but for one on tails that are left out as asked for.
+    /// Whether there is any, but for those on what was asked for: tails that are left out, and large communities that
+    /// have no effect.
     pub any: bool,
 }
 
@@ -56,10 +57,15 @@ impl Notes {
 
     /// Adds the one on a group of peers, if there is a peer, with the text on several of them.
     pub(crate) fn add_group(&mut self, alloc: Global, group: &Group<'_>, several: &str) {
+        self.any = self.any || !group.is_empty();
+        self.add_group_as_asked(alloc, group, several);
+    }
+
+    /// Adds the one on a group of peers that have what was asked for, if there is a peer.
+    pub(crate) fn add_group_as_asked(&mut self, alloc: Global, group: &Group<'_>, several: &str) {
         if group.is_empty() {
             return;
         }
-        self.any = true;
         if let Ok(Some(line)) = group.line(alloc, several) {
             let _ = self.texts.push(line);
         }
@@ -172,7 +178,7 @@ impl<'a> ByPeer<'a> {
             return;
         }
         if let Some(unread) = self.again.of(rt, subject, contents, peer_of(spec)) {
-            self.doubts.take_unread(alloc, spec, unread);
+            self.doubts.take_unread(alloc, subject, spec, unread);
         }
         self.doubts
             .take_sessions(alloc, subject, spec, contents, ending);

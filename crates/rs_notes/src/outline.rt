@@ -201,7 +201,7 @@ impl Outline {
         if let Some(record) = record_of(&self.begun) {
             let recorder = self.held.take_outline(self.alloc, &record)?;
             self.names_server = self.names_server || recorder == Some(self.server);
-            self.unread.take(&record)?;
+            self.unread.take(&record, self.server.asn)?;
         }
         self.octets = self.octets.saturating_add(self.came);
         self.begun.clear();

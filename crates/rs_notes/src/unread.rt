@@ -1,8 +1,9 @@
 //! Messages that a route server doesn't read: of sessions with ADD-PATH (RFC 8050, section 3) or with two-octet AS
-//! numbers (RFC 6396, section 4.4.2), and IPv6 routes in UPDATEs (RFC 4760, sections 3 and 4).
+//! numbers (RFC 6396, section 4.4.2), and IPv6 routes in UPDATEs (RFC 4760, sections 3 and 4). And UPDATEs with large
+//! communities of the server (RFC 8092, section 3), of which a plan may read nothing.
 //!
 //! Our choices: only an UPDATE or a NOTIFICATION counts, since no other message changes a route. What the recorder sent
-//! (RFC 8050, section 4) doesn't count.
+//! (RFC 8050, section 4) doesn't count. Large communities count only in an UPDATE that has NLRI.
 
 use byteorder::{BigEndian, ByteOrder};
 use rs_inventory::Peer;
@@ -49,6 +50,14 @@ const NO_ROUTE_LEN: usize = 3;
 
 const AFI_IPV6: u16 = 2;
 
+// The type of LARGE_COMMUNITY, and how many octets each large community has: the Global Administrator and two parts of
+// four octets each (RFC 8092, section 3).
+const LARGE_COMMUNITY: u8 = 32;
+
+const LARGE_LEN: usize = 12;
+
+const ADMINISTRATOR_LEN: usize = 4;
+
 // The AS number that stands for one that two octets can't hold (RFC 6793, section 9).
 const AS_TRANS: u32 = 23456;
 
@@ -61,6 +70,8 @@ pub(crate) struct Unread {
     pub two_octet: u64,
     /// The UPDATEs with IPv6 routes.
     pub ipv6: u64,
+    /// The UPDATEs with NLRI and with large communities of the server.
+    pub large: u64,
 }
 
 impl Unread {
@@ -70,6 +81,7 @@ impl Unread {
             add_path: 0,
             two_octet: 0,
             ipv6: 0,
+            large: 0,
         }
     }
 
@@ -79,12 +91,13 @@ impl Unread {
             add_path: self.add_path.saturating_add(other.add_path),
             two_octet: self.two_octet.saturating_add(other.two_octet),
             ipv6: self.ipv6.saturating_add(other.ipv6),
+            large: self.large.saturating_add(other.large),
         }
     }
 
-    /// Whether each message is read.
+    /// Whether each message is read, apart from large communities.
     pub(crate) fn is_none(self) -> bool {
-        self == Unread::none()
+        self.add_path == 0 && self.two_octet == 0 && self.ipv6 == 0
     }
 }
 
@@ -102,9 +115,9 @@ impl UnreadMessages {
         }
     }
 
-    /// Takes the next record of the file.
-    pub(crate) fn take(&mut self, record: &Record<'_>) -> Result<(), AllocError> {
-        let Some((peer, found)) = unread_in(record) else {
+    /// Takes the next record of the file. The server has this AS number.
+    pub(crate) fn take(&mut self, record: &Record<'_>, server: u32) -> Result<(), AllocError> {
+        let Some((peer, found)) = unread_in(record, server) else {
             return Ok(());
         };
         let before = match self.peers.get(&peer) {
@@ -138,8 +151,8 @@ impl UnreadMessages {
     }
 }
 
-// Of whom a record has a message that isn't read, and which kind that is.
-fn unread_in(record: &Record<'_>) -> Option<(Peer, Unread)> {
+// Of whom a record has a message that isn't read, or not all of it, and which kind that is.
+fn unread_in(record: &Record<'_>, server: u32) -> Option<(Peer, Unread)> {
     let fields = session_fields(record)?;
     let is_wide = match record.subtype {
         MESSAGE => false,
@@ -152,7 +165,7 @@ fn unread_in(record: &Record<'_>) -> Option<(Peer, Unread)> {
     let kind = *message.get(TYPE_AT)?;
     let none = Unread::none();
     let found = match record.subtype {
-        MESSAGE_AS4 if kind == UPDATE && has_ipv6(message) => Unread { ipv6: 1, ..none },
+        MESSAGE_AS4 if kind == UPDATE => unread_of(message, server),
         MESSAGE_AS4 => none,
         _ if kind != UPDATE && kind != NOTIFICATION => none,
         MESSAGE => Unread {
@@ -164,7 +177,7 @@ fn unread_in(record: &Record<'_>) -> Option<(Peer, Unread)> {
             ..none
         },
     };
-    if found.is_none() {
+    if found == none {
         return None;
     }
     Some((peer, found))
@@ -197,22 +210,25 @@ fn split_message(fields: &[u8], is_wide: bool) -> Option<(Peer, &[u8])> {
     Some((Peer { address, asn }, message))
 }
 
-// Whether an UPDATE announces or withdraws IPv6 routes.
-fn has_ipv6(message: &[u8]) -> bool {
-    let Some(attributes) = path_attributes(message) else {
-        return false;
+// What isn't read of an UPDATE: IPv6 routes, and large communities of the server.
+fn unread_of(message: &[u8], server: u32) -> Unread {
+    let mut unread = Unread::none();
+    let Some((attributes, nlri)) = split_update(message) else {
+        return unread;
     };
     let mut rest = attributes;
     for _ in 0..message.len() {
         let Some((item, behind)) = split_item(rest) else {
-            return false;
+            break;
         };
         if is_ipv6(item.kind, item.value) {
-            return true;
+            unread.ipv6 = 1;
+        } else if !nlri.is_empty() && is_large(item.kind, item.value, server) {
+            unread.large = 1;
         }
         rest = behind;
     }
-    false
+    unread
 }
 
 // Whether an attribute announces or withdraws IPv6 routes.
@@ -232,15 +248,28 @@ fn has_family(value: &[u8]) -> bool {
     }
 }
 
-// The path attributes of an UPDATE, behind its withdrawn routes.
-fn path_attributes(message: &[u8]) -> Option<&[u8]> {
-    let behind = behind_field(message.get(WITHDRAWN_AT..)?)?;
-    let length = usize::from(BigEndian::read_u16(behind.get(..2)?));
-    behind.get(2..)?.get(..length)
+// Whether an attribute has a large community of the server. One that isn't a list of large communities names nothing.
+fn is_large(kind: u8, value: &[u8], server: u32) -> bool {
+    if kind != LARGE_COMMUNITY || value.len() % LARGE_LEN != 0 {
+        return false;
+    }
+    for community in value.chunks_exact(LARGE_LEN) {
+        if BigEndian::read_u32(&community[..ADMINISTRATOR_LEN]) == server {
+            return true;
+        }
+    }
+    false
 }
 
-// The octets behind a field whose length of two octets stands before it.
-fn behind_field(octets: &[u8]) -> Option<&[u8]> {
+// The path attributes of an UPDATE, behind its withdrawn routes, and its NLRI behind them.
+fn split_update(message: &[u8]) -> Option<(&[u8], &[u8])> {
+    let (_, behind) = split_field(message.get(WITHDRAWN_AT..)?)?;
+    split_field(behind)
+}
+
+// A field whose length of two octets stands before it, and the octets behind it.
+fn split_field(octets: &[u8]) -> Option<(&[u8], &[u8])> {
     let length = usize::from(BigEndian::read_u16(octets.get(..2)?));
-    octets.get(2..)?.get(length..)
+    let rest = octets.get(2..)?;
+    Some((rest.get(..length)?, rest.get(length..)?))
 }

@@ -20,7 +20,7 @@ Status:
   2  a file or a device failed; by diff also: the command line or a configuration is refused
   3  memory was refused
   5  by check: a session closes before the end of its file, or there is a note on more than a
-     tail that is left out";
+     tail that is left out, or large communities without an effect";
 
 // A command: its name, what help says of it, and its options in the order of its help.
 type Entry = (&'static str, &'static str, &'static [Row]);

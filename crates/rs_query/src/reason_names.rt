@@ -19,8 +19,11 @@ pub const REFUSED: &str = "refused";
 /// The name of the reason that the client refuses the sender by its name.
 pub const REFUSED_BY_NAME: &str = "name";
 
-/// The name of the reason that a community refuses the route.
+/// The name of the reason that a community refuses the route, be it a large one or not.
 pub const REFUSED_BY_COMMUNITY: &str = "community";
+
+/// The name by which routes are asked for that a large community refuses.
+pub const REFUSED_BY_LARGE_COMMUNITY: &str = "large_community";
 
 /// The name of the answer that the decision process chose another route.
 pub const LOST: &str = "lost";

@@ -2,8 +2,8 @@
 
 use crate::reason_names::{
     ADDRESS, IDENTIFIER, INELIGIBLE, LOST, MED, NEXT_HOP_OFF_EXCHANGE, ORIGIN, PATH_LENGTH,
-    PREFERENCE, REFUSED, REFUSED_BY_COMMUNITY, REFUSED_BY_NAME, SERVER_ADDRESS_AS_NEXT_HOP,
-    SERVER_AS_IN_PATH,
+    PREFERENCE, REFUSED, REFUSED_BY_COMMUNITY, REFUSED_BY_LARGE_COMMUNITY, REFUSED_BY_NAME,
+    SERVER_ADDRESS_AS_NEXT_HOP, SERVER_AS_IN_PATH,
 };
 
 /// An answer or a reason for which routes are listed.
@@ -21,8 +21,10 @@ pub enum AskedReason {
     Refused,
     /// The client refuses their sender by its name.
     RefusedByName,
-    /// A community refuses them.
+    /// A community refuses them, be it a large one or not.
     RefusedByCommunity,
+    /// A large community refuses them.
+    RefusedByLargeCommunity,
     /// The decision process removes them, at whatever step.
     Lost,
     /// The step that compares preferences removes them.
@@ -40,7 +42,7 @@ pub enum AskedReason {
 }
 
 // The names, in the order of help.
-pub(crate) const REASONS: [&str; 14] = [
+pub(crate) const REASONS: [&str; 15] = [
     INELIGIBLE,
     SERVER_AS_IN_PATH,
     SERVER_ADDRESS_AS_NEXT_HOP,
@@ -48,6 +50,7 @@ pub(crate) const REASONS: [&str; 14] = [
     REFUSED,
     REFUSED_BY_NAME,
     REFUSED_BY_COMMUNITY,
+    REFUSED_BY_LARGE_COMMUNITY,
     LOST,
     PREFERENCE,
     PATH_LENGTH,
@@ -68,6 +71,7 @@ impl AskedReason {
             REFUSED => Some(AskedReason::Refused),
             REFUSED_BY_NAME => Some(AskedReason::RefusedByName),
             REFUSED_BY_COMMUNITY => Some(AskedReason::RefusedByCommunity),
+            REFUSED_BY_LARGE_COMMUNITY => Some(AskedReason::RefusedByLargeCommunity),
             LOST => Some(AskedReason::Lost),
             PREFERENCE => Some(AskedReason::Preference),
             PATH_LENGTH => Some(AskedReason::PathLength),
