@@ -84,7 +84,7 @@ def path_text(value):
 
 def shown(row, names):
     """The object that `table --json` of the looking glass must have for a row, the peers having these names by their addresses."""
-    large = numbers(row.attributes.get(32, b""))
+    large = numbers(row.attributes.get(32, b"")) if len(row.attributes.get(32, b"")) % 12 == 0 else []
     return {
         "prefix": row.prefix,
         "peer": names[row.address],

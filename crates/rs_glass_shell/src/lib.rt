@@ -43,7 +43,8 @@ pub use reasons::{
 pub use reply::{Reply, answer_with};
 pub use route_fields::{DOUBT, hand_attributes, hand_doubt, hand_route};
 pub use route_text::{
-    LARGE_COMMUNITY, attributes_text, community_texts, hex_text, large_community_texts, path_text,
+    attributes_text, community_texts, hex_text, large_community_texts, lists_large_communities,
+    path_text,
 };
 pub use serving::served;
 pub use setup::{peer_named, peer_of_name};

@@ -1,7 +1,7 @@
 //! Path attributes as texts.
 
 use crate::reasons::origin_name;
-use rs_update::{Attributes, Numbers, SegmentView};
+use rs_update::{Attributes, Numbers, SegmentView, Unrecognized};
 use std::alloc::{AllocError, Global};
 use std::net::Ipv4Addr;
 
@@ -60,10 +60,16 @@ pub fn community_texts(alloc: Global, attributes: &Attributes) -> Result<Vec<Str
     Ok(texts)
 }
 
-/// The type of LARGE_COMMUNITY, and how many octets a large community has (RFC 8092, section 3).
-pub const LARGE_COMMUNITY: u8 = 32;
+// The type of LARGE_COMMUNITY, and how many octets a large community has (RFC 8092, section 3).
+const LARGE_COMMUNITY: u8 = 32;
 
 const LARGE_LEN: usize = 12;
+
+/// Whether an attribute lists large communities: a LARGE_COMMUNITY of another length names none.
+pub fn lists_large_communities(other: &Unrecognized<'_>) -> bool {
+    let value = other.value;
+    other.kind == LARGE_COMMUNITY && !value.is_empty() && value.len() % LARGE_LEN == 0
+}
 
 /// The large communities of a route.
 pub fn large_community_texts(
@@ -80,7 +86,7 @@ pub fn large_community_texts(
 // The octets of a route's large communities; none if it has no such attribute.
 fn large_communities(attributes: &Attributes) -> &[u8] {
     for other in attributes.others() {
-        if other.kind == LARGE_COMMUNITY {
+        if lists_large_communities(&other) {
             return other.value;
         }
     }

@@ -1,6 +1,6 @@
 //! All path attributes of a route as fields of an object.
 
-use rs_glass_shell::{LARGE_COMMUNITY, hand_attributes, hex_text};
+use rs_glass_shell::{hand_attributes, hex_text, lists_large_communities};
 use rs_rows::RowWriter;
 use rs_update::{Aggregator, Attributes, Unrecognized};
 use serde_json::Value;
@@ -44,7 +44,7 @@ fn aggregator_value(alloc: Global, aggregator: Option<Aggregator>) -> Result<Val
 fn others_value(alloc: Global, attributes: &Attributes) -> Result<Value, AllocError> {
     let mut others = Vec::new(alloc);
     for other in attributes.others() {
-        if other.kind != LARGE_COMMUNITY {
+        if !lists_large_communities(&other) {
             others.push(other_object(alloc, &other)?)?;
         }
     }

@@ -1,7 +1,8 @@
 //! All path attributes of a route as lines of a text (RFC 4271, section 4.3; RFC 1997; RFC 8092).
 
 use rs_glass_shell::{
-    LARGE_COMMUNITY, community_texts, hex_text, large_community_texts, origin_name, path_text,
+    community_texts, hex_text, large_community_texts, lists_large_communities, origin_name,
+    path_text,
 };
 use rs_rows::{add_cell, add_words, joined};
 use rs_update::{Attributes, Unrecognized};
@@ -74,14 +75,14 @@ fn add_list(text: &mut String, name: &str, list: &str) -> Result<(), AllocError>
     add_line(text, name, list)
 }
 
-// Adds the line of an attribute of another type: large communities, or the octets of an unrecognized one.
+// Adds the line of an attribute of another type: large communities, or the octets of an attribute that isn't read.
 fn add_other(
     text: &mut String,
     alloc: Global,
     attributes: &Attributes,
     other: &Unrecognized<'_>,
 ) -> Result<(), AllocError> {
-    if other.kind == LARGE_COMMUNITY {
+    if lists_large_communities(other) {
         let communities = large_community_texts(alloc, attributes)?;
         return add_list(text, "LARGE_COMMUNITY", &joined(alloc, &communities)?);
     }
