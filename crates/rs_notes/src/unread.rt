@@ -50,13 +50,11 @@ const NO_ROUTE_LEN: usize = 3;
 
 const AFI_IPV6: u16 = 2;
 
-// The type of LARGE_COMMUNITY, and how many octets each large community has: the Global Administrator and two parts of
-// four octets each (RFC 8092, section 3).
+// The type of LARGE_COMMUNITY, and how many octets each large community has, of which the first four are the Global
+// Administrator (RFC 8092, section 3).
 const LARGE_COMMUNITY: u8 = 32;
 
 const LARGE_LEN: usize = 12;
-
-const ADMINISTRATOR_LEN: usize = 4;
 
 // The AS number that stands for one that two octets can't hold (RFC 6793, section 9).
 const AS_TRANS: u32 = 23456;
@@ -254,7 +252,7 @@ fn is_large(kind: u8, value: &[u8], server: u32) -> bool {
         return false;
     }
     for community in value.chunks_exact(LARGE_LEN) {
-        if BigEndian::read_u32(&community[..ADMINISTRATOR_LEN]) == server {
+        if community.starts_with(&server.to_be_bytes()) {
             return true;
         }
     }
