@@ -96,7 +96,7 @@ permitted_known plan client number attributes permitted =
   where
     by_peers : (own : Bool) (one other : Option Peer) → slice_get plan.peers number ≡ other →
         (not own && option_map_or (λ receiver. option_map_or
-        (λ sender. is_permitted_from plan.local receiver sender attributes) other false)
+        (λ sender. is_permitted_from plan receiver sender attributes) other false)
         one false) ≡ true → number < length plan.peers
     by_peers true one other at is = absurd (cc is)
     by_peers false None other at is = absurd (cc is)

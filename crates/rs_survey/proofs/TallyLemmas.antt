@@ -48,10 +48,11 @@ step_below Med = omega arith
 step_below Identifier = omega arith
 step_below Address = omega arith
 
-reason_below : (reason : MissingReason) → reason_number reason < 11
+reason_below : (reason : MissingReason) → reason_number reason < 12
 reason_below (reasons.Ineligible condition) = omega (arith, condition_below condition)
 reason_below reasons.RefusedByName = omega arith
 reason_below reasons.RefusedByCommunity = omega arith
+reason_below reasons.RefusedByLargeCommunity = omega arith
 reason_below (reasons.Lost step) = omega (arith, step_below step)
 
 has_digits : (peers : ℕ) (finding : Finding) → IsKnown peers finding → HasDigits (digits peers) (key_of finding)

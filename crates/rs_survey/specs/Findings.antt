@@ -30,7 +30,8 @@ abbrev pub reason_number : MissingReason → ℕ
 reason_number (reasons.Ineligible condition) = condition_number condition
 reason_number reasons.RefusedByName = 3
 reason_number reasons.RefusedByCommunity = 4
-reason_number (reasons.Lost step) = 5 + step_number step
+reason_number reasons.RefusedByLargeCommunity = 5
+reason_number (reasons.Lost step) = 6 + step_number step
 
 -- three numbers that distinguish a finding from all others: its kind, and what it is about
 abbrev pub key_of : Finding → Key

@@ -1,7 +1,6 @@
 -- The routes on a prefix, as a summary stores them.
 use Rattle.std.specs.Prelude.{◌≡◌, ◌<◌, ℕ, ◌&&◌, Bool, false, if◌then◌else◌, length, Option, None, Some}
 use Rattle.std.specs.Option.{option_map, option_map_or}
-use Rattle.rs_update.specs.Community.{has_community_of_in}
 use Rattle.rs_choice.specs.declared.candidate.Candidate.{Candidate}
 use Rattle.rs_choice.specs.declared.candidate.Standing.{Standing}
 use Rattle.rs_choice.specs.declared.step.Step.{Step}
@@ -10,7 +9,7 @@ use Rattle.rs_choice.specs.Clients.{is_sent_to}
 use Rattle.rs_choice.specs.Decision.{SentRoute, beats, standing_of}
 use Rattle.rs_choice.specs.Eligibility.{is_eligible}
 use Rattle.rs_choice.specs.Plan.{Plan}
-use Rattle.rs_choice.specs.Policy.{is_permitted}
+use Rattle.rs_choice.specs.Policy.{is_permitted, may_refuse}
 use Rattle.rs_table.specs.RouteView.{sent_route_of}
 use Rattle.rs_explain.specs.Reasons.{failed_condition, kind_of}
 use Rattle.rs_explain.specs.Removals.{beats_by_med}
@@ -24,7 +23,7 @@ pub record IsSeen (plan : Plan) (seen : Seen) : Type 0 where
   pub known : seen.route.peer < length plan.peers
   pub standing : seen.standing ≡ standing_of plan (sent_of_seen seen)
   pub failed : seen.failed ≡ option_map kind_of (failed_condition plan seen.route.peer seen.route.attributes.now)
-  pub restricted : seen.restricted ≡ has_community_of_in seen.route.attributes.now.communities 0
+  pub restricted : seen.restricted ≡ may_refuse plan seen.route.attributes.now
 
 -- the route `other` is a candidate of the client, which gets `best`, and it removes `one` by MED
 abbrev pub keeps_out : Plan → ℕ → Standing → Standing → SentRoute → Bool

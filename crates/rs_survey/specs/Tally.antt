@@ -19,10 +19,10 @@ tally_code =
 abbrev pub tally_view : Inside → TallyContent
 tally_view fields = record { peers = fields.peers; counts = fields.counts.items }
 
--- each digit of a place is below this: it is a peer's number, or that of one of eleven reasons, six steps or three
+-- each digit of a place is below this: it is a peer's number, or that of one of twelve reasons, six steps or three
 -- conditions
 abbrev pub digits : ℕ → ℕ
-digits peers = peers + 11
+digits peers = peers + 12
 
 -- the place of a finding's count: its key as a number of three digits
 abbrev pub place_in : ℕ → Key → ℕ

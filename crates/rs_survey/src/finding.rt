@@ -73,7 +73,8 @@ fn reason_number(reason: MissingReason) -> usize
         MissingReason::Ineligible(condition) => condition as usize,
         MissingReason::RefusedByName => 3,
         MissingReason::RefusedByCommunity => 4,
-        MissingReason::Lost(step) => 5 + step_number(step),
+        MissingReason::RefusedByLargeCommunity => 5,
+        MissingReason::Lost(step) => 6 + step_number(step),
     }
 }
 

@@ -21,7 +21,7 @@ pub(crate) struct Seen<'a> {
     pub(crate) standing: Standing,
     // The first condition of eligibility that it fails.
     pub(crate) failed: Option<ConditionKind>,
-    // Whether it has a community (0, AS): without one only its sender's name can be refused.
+    // Whether some community refuses it to someone: if none does, only its sender's name can be refused.
     pub(crate) restricted: bool,
 }
 
@@ -59,12 +59,12 @@ fn route_seen<'a>(plan: &Exchange, peer: usize, route: Route<'a>) -> Seen<'a>
             attributes: route.attributes,
         }),
         failed: failed_condition(plan, peer, route.attributes).map(Condition::kind),
-        restricted: route.attributes.has_community_of(0),
+        restricted: plan.may_refuse(route.attributes),
     }
 }
 
-// Whether export policy permits a route to another peer as its client. Most routes have no community (0, AS), and then
-// no other community is looked at.
+// Whether export policy permits a route to another peer as its client. Most routes have no community that refuses
+// them, and then none is looked at.
 pub(crate) fn permits(plan: &Exchange, client: usize, one: &Seen) -> bool
     requires client_known { client < length plan.now.peers }
     requires seen { IsSeen plan.now one.now }

@@ -12,8 +12,8 @@ use rs_choice::MAX_PEERS;
 use std::alloc::{AllocError, Global};
 use std::marker::Model;
 
-// A digit of a place is below the number of peers and these: there are eleven reasons.
-const MORE: usize = 11;
+// A digit of a place is below the number of peers and these: there are twelve reasons.
+const MORE: usize = 12;
 
 // How many kinds of findings there are.
 const KINDS: usize = 8;
