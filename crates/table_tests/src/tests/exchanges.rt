@@ -2,7 +2,8 @@
 //!
 //! An exchange is the server's AS and its subnet, if it has one, and behind each semicolon a peer: its name, AS,
 //! address, BGP Identifier and preference, which is 100 if none stands, and the names from which it refuses routes.
-//! The server's address is 192.0.2.1. The attributes of a route are words, which WORDS spells.
+//! Behind the subnet stands `large` if large communities count. The server's address is 192.0.2.1. The attributes of a
+//! route are words, which WORDS spells.
 
 ghost use Rattle.std.specs.Prelude.{◌<◌, IfSome, length};
 
@@ -56,6 +57,15 @@ med-10 = 800404 0000000A
 # LOCAL_PREF (section 5.1.5), and a transitive attribute of type 32 (RFC 8092) without the bit Partial.
 preference-200 = 400504 000000C8
 large-65000:1:2 = C0200C 0000FDE8 00000001 00000002
+
+# LARGE_COMMUNITY (RFC 8092).
+large-64500:0:0 = C0200C 0000FBF4 00000000 00000000
+large-64500:0:64502 = C0200C 0000FBF4 00000000 0000FBF6
+large-64500:0:70000 = C0200C 0000FBF4 00000000 00011170
+large-64500:1:64502 = C0200C 0000FBF4 00000001 0000FBF6
+large-65010:0:64502 = C0200C 0000FDF2 00000000 0000FBF6
+large-64500:0:0,64500:1:64502 = C02018 0000FBF4 00000000 00000000 0000FBF4 00000001 0000FBF6
+large-64500:1:64502,64500:0:64502 = C02018 0000FBF4 00000001 0000FBF6 0000FBF4 00000000 0000FBF6
 
 # COMMUNITIES (RFC 1997).
 0:64500 = C00804 0000FBF4
@@ -173,7 +183,15 @@ pub fn plan(alloc: Global, text: &str) -> Option<(Local, Vec<PeerSpec>)> {
 /// The exchange that a text describes, or the fault of its plan.
 pub fn judged(alloc: Global, text: &str) -> Option<Result<Exchange, PlanFault>> {
     let (server, peers) = plan(alloc, text)?;
-    Some(Exchange::new(alloc, server, peers))
+    let counted = counts_large_communities(text);
+    let judged = Exchange::new(alloc, server, peers);
+    Some(judged.map(|exchange| exchange.with_large_communities(counted)))
+}
+
+// Whether large communities count in the exchange that a text describes.
+fn counts_large_communities(text: &str) -> bool {
+    let server = text.split(';').next().unwrap_or("");
+    server.ends_with(" large")
 }
 
 /// The exchange that a text describes.

@@ -98,7 +98,35 @@ told: to nobody, nor to AS 64502 | a igp 64501 hop-a 0:64500,0:64502 | b a Refus
 told: to nobody but AS 64502 | a igp 64501 hop-a 0:64500,64500:64502 | b a Best([]); c a Refused(ToAll(64500))
 told: not to AS 64502, and to it | a igp 64501 hop-a 0:64502,64500:64502 | b a Refused(ToClient(64502))
 
+# Large communities refuse and permit only where they count (RFC 8092; the rules are our choice).
+told: they do not count | a igp 64501 hop-a large-64500:0:0 | b a Best([]); c a Best([])
+exchange 64500 192.0.2.0/24 large; a,64501,192.0.2.11,0.0.0.11; b,64502,192.0.2.12,0.0.0.12; \
+    c,64503,192.0.2.13,0.0.0.13; d,70000,192.0.2.14,0.0.0.14
+told: not to AS 64502 | a igp 64501 hop-a large-64500:0:64502 | \
+    b a Refused(LargeToClient { server: 64500, client: 64502 }); c a Best([])
+told: not to AS 70000, of four octets | a igp 64501 hop-a large-64500:0:70000 | \
+    d a Refused(LargeToClient { server: 64500, client: 70000 }); c a Best([])
+told: to nobody | a igp 64501 hop-a large-64500:0:0 | b a Refused(LargeToAll(64500)); d a Refused(LargeToAll(64500))
+told: to nobody but AS 64502 | a igp 64501 hop-a large-64500:0:0,64500:1:64502 | \
+    b a Best([]); c a Refused(LargeToAll(64500))
+told: not to AS 64502, and to it | a igp 64501 hop-a large-64500:1:64502,64500:0:64502 | \
+    b a Refused(LargeToClient { server: 64500, client: 64502 })
+told: those of another AS | a igp 64501 hop-a large-65010:0:64502 | b a Best([]); c a Best([])
+
+# Beside communities, at each place the community comes first.
+told: not to AS 64502, twice | a igp 64501 hop-a 0:64502 large-64500:0:64502 | b a Refused(ToClient(64502))
+told: to AS 64502, and not to it | a igp 64501 hop-a 64500:64502 large-64500:0:64502 | \
+    b a Refused(LargeToClient { server: 64500, client: 64502 }); c a Best([])
+told: not to AS 64502, and to it | a igp 64501 hop-a 0:64502 large-64500:1:64502 | b a Refused(ToClient(64502))
+told: to nobody, and to AS 64502 | a igp 64501 hop-a 0:64500 large-64500:1:64502 | \
+    b a Best([]); c a Refused(ToAll(64500))
+told: to AS 64502, and to nobody | a igp 64501 hop-a 64500:64502 large-64500:0:0 | \
+    b a Best([]); c a Refused(LargeToAll(64500))
+told: to nobody, twice | a igp 64501 hop-a 0:64500 large-64500:0:0 | b a Refused(ToAll(64500))
+
 # The step at which a route loses (RFC 4271, sections 9.1.1 and 9.1.2.2), and all that the best one beat.
+exchange 64500 192.0.2.0/24; a,64501,192.0.2.11,0.0.0.11; b,64502,192.0.2.12,0.0.0.12; c,64503,192.0.2.13,0.0.0.13; \
+    d,64504,192.0.2.14,0.0.0.14
 told: a longer path | a igp 64501-65010 hop-a; c igp 64501 hop-a; d egp 64501 hop-a | \
     b a Lost(PathLength, 0, 2, 2, 1); b c Best([0, 3]); b d Lost(Origin, 3, 1, 2, 1)
 told: a higher origin | a egp 64501 hop-a; c igp 64501 hop-a; d igp 64501-65010 hop-a | \
@@ -116,8 +144,11 @@ told: a route may lose by MED to one that isn't the best | a igp 64501 hop-a; c 
     d igp 64503 hop-a | b a Best([2, 3]); b c Lost(Med, 2, 1, 3, 1); b d Lost(Identifier, 3, 1, 0, 1)
 
 # The name of a refused peer comes before communities.
-exchange 64500 192.0.2.0/24; a,64501,192.0.2.11,0.0.0.11; b,64502,192.0.2.12,0.0.0.12,100,a; c,64503,192.0.2.13,0.0.0.13
-told: b refuses a | a igp 64501 hop-a 0:64502 | b a Refused(ByName); c a Best([])
+exchange 64500 192.0.2.0/24 large; a,64501,192.0.2.11,0.0.0.11; b,64502,192.0.2.12,0.0.0.12,100,a; \
+    c,64503,192.0.2.13,0.0.0.13
+told: b refuses a | a igp 64501 hop-a 0:64502 large-64500:0:64502 | b a Refused(ByName); c a Best([])
+told: b refuses a, though a permits it | a igp 64501 hop-a 64500:64502 large-64500:1:64502 | \
+    b a Refused(ByName); c a Best([])
 
 # The preference goes first.
 exchange 64500 192.0.2.0/24; a,64501,192.0.2.11,0.0.0.11; b,64502,192.0.2.12,0.0.0.12; c,64503,192.0.2.13,0.0.0.13; \
