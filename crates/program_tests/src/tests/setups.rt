@@ -19,6 +19,7 @@ as = 4294967295
 name = "a"
 
 [server]
+large_communities = true
 subnet = "192.0.2.0/24"
 id = "10.20.30.40"
 address = "192.0.2.1"
@@ -43,16 +44,16 @@ refuse_from = ["a"]
 file = "../c"
 "#;
 
-// What it sets up. First the AS number, the address, the BGP Identifier and the subnet of the server. Then for each
-// peer the name, the AS number, the address, the BGP Identifier, the preference, whose routes it refuses, and its
-// file.
-const EVERY_KEY_SET_UP: &str = r#"64500 192.0.2.1 10.20.30.40 192.0.2.0/24
+// What it sets up. First the AS number, the address, the BGP Identifier and the subnet of the server, and `large` if
+// large communities count. Then for each peer the name, the AS number, the address, the BGP Identifier, the preference,
+// whose routes it refuses, and its file.
+const EVERY_KEY_SET_UP: &str = r#"64500 192.0.2.1 10.20.30.40 192.0.2.0/24 large
 a 4294967295 192.0.2.11 0.0.0.1 4294967295 ["c", "b", "c"] "recorded/a 1.mrt"
 b 1 255.255.255.255 0.0.0.0 0 [] ""
 c 64503 192.0.2.13 192.0.2.11 101 ["a"] "../c""#;
 
-// The keys that must be there, alone, and what they set up: an id is its address, a preference is 100, and no subnet is
-// there.
+// The keys that must be there, alone, and what they set up: an id is its address, a preference is 100, no subnet is
+// there, and large communities do not count.
 const REQUIRED_KEYS: &str = r#"
 peer = [
     { name = "b", as = 64502, address = "192.0.2.12", file = "b.mrt" },
@@ -80,6 +81,12 @@ const SUBNETS: [(&str, &str); 7] = [
     ),
 ];
 
+// Whether large communities count, as it is written, and what is set up of a server that has no other key.
+const LARGE_COMMUNITIES: [(&str, &str); 2] = [
+    ("true", "64500 192.0.2.1 192.0.2.1 none large"),
+    ("false", "64500 192.0.2.1 192.0.2.1 none"),
+];
+
 // Appends what is set up of the server.
 fn push_server(text: &mut String, setup: &Setup) -> Result<(), AllocError> {
     let local = setup.plan.local();
@@ -89,12 +96,16 @@ fn push_server(text: &mut String, setup: &Setup) -> Result<(), AllocError> {
     );
     write!(text, "{} {address} {id}", local.asn)?;
     match local.subnet {
-        None => text.push_str(" none"),
+        None => text.push_str(" none")?,
         Some(subnet) => {
             let (address, len) = (Ipv4Addr::from_bits(subnet.address()), subnet.len());
-            write!(text, " {address}/{len}")
+            write!(text, " {address}/{len}")?;
         }
     }
+    if setup.plan.counts_large_communities() {
+        text.push_str(" large")?;
+    }
+    Ok(())
 }
 
 // Appends a peer and its file.
@@ -135,9 +146,9 @@ fn every_key_is_read_or_has_a_default(rt: HostRuntime) -> Result<(), Fail> {
     check_set_up(rt.alloc(), REQUIRED_KEYS, REQUIRED_KEYS_SET_UP)
 }
 
-// What is set up of the server where a subnet is written so.
-fn server_with(alloc: Global, subnet: &str) -> Result<String, Fail> {
-    let text = format!(in alloc; "{REQUIRED_KEYS}server.subnet = \"{subnet}\"")?;
+// What is set up of the server where one more key has this value.
+fn server_with(alloc: Global, key: &str, value: &str) -> Result<String, Fail> {
+    let text = format!(in alloc; "{REQUIRED_KEYS}server.{key} = {value}")?;
     let mut found = String::new(alloc);
     push_server(&mut found, &read_setup(alloc, text.as_bytes())?)?;
     Ok(found)
@@ -146,7 +157,20 @@ fn server_with(alloc: Global, subnet: &str) -> Result<String, Fail> {
 #[test]
 fn the_host_bits_of_a_subnet_are_cleared(rt: HostRuntime) -> Result<(), Fail> {
     for (subnet, wanted) in &SUBNETS {
-        check(&server_with(rt.alloc(), subnet)?, wanted, subnet)?;
+        let value = format!(in rt.alloc(); "\"{subnet}\"")?;
+        check(&server_with(rt.alloc(), "subnet", &value)?, wanted, subnet)?;
+    }
+    Ok(())
+}
+
+#[test]
+fn large_communities_count_if_that_is_configured(rt: HostRuntime) -> Result<(), Fail> {
+    for (value, wanted) in &LARGE_COMMUNITIES {
+        check(
+            &server_with(rt.alloc(), "large_communities", value)?,
+            wanted,
+            value,
+        )?;
     }
     Ok(())
 }
