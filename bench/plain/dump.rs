@@ -16,14 +16,16 @@ pub struct Row<'a> {
     pub attributes: &'a Attributes,
 }
 
-fn put_header(buffer: &mut Vec<u8>, time: u32, subtype: u16, body_len: usize) {
+/// Appends the header of a record.
+pub fn put_header(buffer: &mut Vec<u8>, time: u32, subtype: u16, body_len: usize) {
     buffer.extend_from_slice(&time.to_be_bytes());
     buffer.extend_from_slice(&13u16.to_be_bytes());
     buffer.extend_from_slice(&subtype.to_be_bytes());
     buffer.extend_from_slice(&(body_len as u32).to_be_bytes());
 }
 
-fn put_peers(buffer: &mut Vec<u8>, name: &str, plan: &Plan, time: u32) {
+/// Appends the record of the peers of a client's dump.
+pub fn put_peers(buffer: &mut Vec<u8>, name: &str, plan: &Plan, time: u32) {
     put_header(buffer, time, 1, 8 + name.len() + 13 * plan.peers.len());
     buffer.extend_from_slice(&plan.address.to_be_bytes());
     buffer.extend_from_slice(&(name.len() as u16).to_be_bytes());

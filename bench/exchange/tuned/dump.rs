@@ -1,5 +1,6 @@
 //! Writes the dumps of some clients side by side (RFC 6396, section 4.3), as `bench/plain/dump.rs` writes each.
 use crate::decide::{Choice, EACH};
+use crate::plain_dump::{put_header, put_peers};
 use crate::store::{Arena, Change};
 use crate::tables::Plan;
 use std::fs::File;
@@ -33,17 +34,7 @@ impl Dump {
     fn start(out: &Path, client: usize, plan: &Plan) -> io::Result<Dump> {
         let name = format!("p{client}");
         let mut buffer = Vec::with_capacity(PIECE_LEN + LONGEST_RECORD);
-        put_header(&mut buffer, 1, 8 + name.len() + 13 * plan.peers.len());
-        buffer.extend_from_slice(&plan.address.to_be_bytes());
-        buffer.extend_from_slice(&(name.len() as u16).to_be_bytes());
-        buffer.extend_from_slice(name.as_bytes());
-        buffer.extend_from_slice(&(plan.peers.len() as u16).to_be_bytes());
-        for peer in &plan.peers {
-            buffer.push(2);
-            for number in [peer.id, peer.address, peer.asn] {
-                buffer.extend_from_slice(&number.to_be_bytes());
-            }
-        }
+        put_peers(&mut buffer, &name, plan, 0);
         Ok(Dump { file: File::create(out.join(name + ".mrt"))?, buffer, rows: 0 })
     }
 
@@ -71,12 +62,6 @@ impl Dump {
         self.buffer.drain(..PIECE_LEN);
         Ok(())
     }
-}
-
-fn put_header(buffer: &mut Vec<u8>, subtype: u16, body_len: usize) {
-    buffer.extend_from_slice(&[0, 0, 0, 0, 0, 13]);
-    buffer.extend_from_slice(&subtype.to_be_bytes());
-    buffer.extend_from_slice(&(body_len as u32).to_be_bytes());
 }
 
 impl Tables<'_> {
@@ -126,7 +111,7 @@ impl Tables<'_> {
         let octets = usize::from(len).div_ceil(8);
         let spelling = arena.spelling(route.place());
         record.clear();
-        put_header(record, 2, 15 + octets + spelling.len());
+        put_header(record, 0, 2, 15 + octets + spelling.len());
         record.extend_from_slice(&[0, 0, 0, 0, len]);
         record.extend_from_slice(&route.address(first_octet).to_be_bytes()[..octets]);
         record.extend_from_slice(&1u16.to_be_bytes());

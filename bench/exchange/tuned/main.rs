@@ -6,6 +6,9 @@
 //! usage: tuned FOLDER PEERS OUT [THREADS]
 mod decide;
 mod dump;
+#[allow(dead_code)]
+#[path = "../../plain/dump.rs"]
+mod plain_dump;
 mod read;
 mod store;
 #[allow(dead_code)]
