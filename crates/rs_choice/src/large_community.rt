@@ -9,20 +9,25 @@ ghost use Rattle.rs_choice.specs.LargeCommunity.{large_communities_in, large_com
 use byteorder::{BigEndian, ByteOrder};
 use rs_types::Attributes;
 
-// The type of LARGE_COMMUNITY (RFC 8092, section 3).
-pub(crate) const LARGE_COMMUNITY: u8 = 32;
+/// The type of LARGE_COMMUNITY (RFC 8092, section 3).
+pub const LARGE_COMMUNITY: u8 = 32;
 
-// The octets of a large community: three numbers of four octets.
-pub(crate) const LARGE_LEN: usize = 12;
+/// How many octets a large community has: three numbers of four octets (RFC 8092, section 3).
+pub const LARGE_LEN: usize = 12;
 
 // Where the two parts of Local Data begin.
 const FIRST_AT: usize = 4;
 
 const SECOND_AT: usize = 8;
 
-/// Whether the large community (`global`, `first`, `second`) was received: Global Administrator and the two parts of
-/// Local Data (RFC 8092, section 3). It takes no memory.
-pub fn has_large_community(attributes: &Attributes, global: u32, first: u32, second: u32) -> bool
+// Whether the large community (`global`, `first`, `second`) was received: Global Administrator and the two parts of
+// Local Data (RFC 8092, section 3).
+pub(crate) fn has_large_community(
+    attributes: &Attributes,
+    global: u32,
+    first: u32,
+    second: u32,
+) -> bool
     ensures { result ≡ has_large_community attributes.now global first second }
 {
     let mut rest = large_communities(attributes);
@@ -49,8 +54,8 @@ pub(crate) fn has_large_community_of(attributes: &Attributes, global: u32, first
     false
 }
 
-// The large communities of a route, each as its octets.
-pub(crate) fn large_communities(attributes: &Attributes) -> &[[u8; LARGE_LEN]]
+/// The large communities of a route, each as its 12 octets; none if it has no such attribute. It takes no memory.
+pub fn large_communities(attributes: &Attributes) -> &[[u8; LARGE_LEN]]
     ensures { map large_community_of result.now ≡ large_communities_of attributes.now }
 {
     let mut rest = attributes.others();
@@ -62,8 +67,9 @@ pub(crate) fn large_communities(attributes: &Attributes) -> &[[u8; LARGE_LEN]]
     &[]
 }
 
-// A value of LARGE_COMMUNITY as large communities; none if its length is no multiple of 12.
-fn large_communities_in(value: &[u8]) -> &[[u8; LARGE_LEN]]
+/// A value of LARGE_COMMUNITY as large communities, each as its 12 octets: three numbers of four octets, most
+/// significant octet first (RFC 8092, section 3). None if the length of the value is no multiple of 12 (our choice).
+pub fn large_communities_in(value: &[u8]) -> &[[u8; LARGE_LEN]]
     ensures { map large_community_of result.now ≡ large_communities_in value.now }
 {
     let (communities, rest) = value.as_chunks::<LARGE_LEN>();

@@ -43,7 +43,7 @@ pub use exchange::Exchange;
 pub use fault::PlanFault;
 pub use held_order::{is_at, place_of_peer};
 pub use held_route::HeldRoute;
-pub use large_community::has_large_community;
+pub use large_community::{LARGE_COMMUNITY, LARGE_LEN, large_communities, large_communities_in};
 pub use laws::{
     a_plan_is_refused_by_its_first_fault, an_open_policy_shares_the_choice,
     med_decides_within_a_neighbour_as, peers_have_addresses_of_their_own,

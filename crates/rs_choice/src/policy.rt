@@ -12,7 +12,9 @@ ghost use Rattle.rs_choice.specs.Policy.{has_large, is_permitted, may_refuse, pe
 ghost use Rattle.rs_choice.specs.PolicyCase.{first_case, permits_both};
 
 use crate::exchange::Exchange;
-use crate::large_community::{LARGE_LEN, has_large_community_of, is_large, large_communities};
+use crate::large_community::{
+    LARGE_LEN, has_large_community, has_large_community_of, is_large, large_communities,
+};
 use rs_types::{Attributes, Numbers};
 
 // The numbers that half a community can hold (RFC 1997).
@@ -85,6 +87,15 @@ impl Exchange {
         attributes.has_community_of(0)
             || (self.counts_large_communities()
                 && has_large_community_of(attributes, self.local().asn, REFUSES))
+    }
+
+    /// Whether a route has the server's large community with these two parts, and large communities count (RFC 8092). It
+    /// takes no memory.
+    pub fn has_large_community(&self, attributes: &Attributes, first: u32, second: u32) -> bool
+        ensures { result ≡ has_large self.now attributes.now first second }
+    {
+        self.counts_large_communities()
+            && has_large_community(attributes, self.local().asn, first, second)
     }
 
     // Whether a client may get a route of another peer, if it is known whether some community may refuse the route.

@@ -1,10 +1,9 @@
 //! The rules of export policy that refuse a route, one by one (RFC 7947, section 2.3; the rules are our choice).
 
 ghost use Rattle.std.specs.Prelude.{◌≡◌, ◌<◌, length};
-ghost use Rattle.rs_choice.specs.Policy.{has_large};
 ghost use Rattle.rs_explain.specs.Reasons.{refusal_of, ruling};
 
-use rs_choice::{Exchange, has_large_community};
+use rs_choice::Exchange;
 use rs_update::Attributes;
 
 /// A rule of export policy that refuses a route to a client.
@@ -57,25 +56,17 @@ fn ruling(plan: &Exchange, by_name: bool, client: u32, attributes: &Attributes) 
         Some(Refusal::ByName)
     } else if attributes.has_community(0, client) {
         Some(Refusal::ToClient(client))
-    } else if has_large(plan, attributes, 0, client) {
+    } else if plan.has_large_community(attributes, 0, client) {
         Some(Refusal::LargeToClient { server, client })
     } else if attributes.has_community(server, client) {
         None
-    } else if has_large(plan, attributes, 1, client) {
+    } else if plan.has_large_community(attributes, 1, client) {
         None
     } else if attributes.has_community(0, server) {
         Some(Refusal::ToAll(server))
-    } else if has_large(plan, attributes, 0, 0) {
+    } else if plan.has_large_community(attributes, 0, 0) {
         Some(Refusal::LargeToAll(server))
     } else {
         None
     }
-}
-
-// Whether a route has the server's large community with these two parts, if the plan counts large communities.
-fn has_large(plan: &Exchange, attributes: &Attributes, first: u32, second: u32) -> bool
-    ensures { result ≡ has_large plan.now attributes.now first second }
-{
-    plan.counts_large_communities()
-        && has_large_community(attributes, plan.local().asn, first, second)
 }

@@ -1,6 +1,7 @@
 //! Path attributes as texts.
 
 use crate::reasons::origin_name;
+use rs_choice::{LARGE_COMMUNITY, LARGE_LEN, large_communities, large_communities_in};
 use rs_update::{Attributes, Numbers, SegmentView, Unrecognized};
 use std::alloc::{AllocError, Global};
 use std::net::Ipv4Addr;
@@ -60,15 +61,9 @@ pub fn community_texts(alloc: Global, attributes: &Attributes) -> Result<Vec<Str
     Ok(texts)
 }
 
-// The type of LARGE_COMMUNITY, and how many octets a large community has (RFC 8092, section 3).
-const LARGE_COMMUNITY: u8 = 32;
-
-const LARGE_LEN: usize = 12;
-
 /// Whether an attribute lists large communities: a LARGE_COMMUNITY of another length names none.
 pub fn lists_large_communities(other: &Unrecognized<'_>) -> bool {
-    let value = other.value;
-    other.kind == LARGE_COMMUNITY && !value.is_empty() && value.len() % LARGE_LEN == 0
+    other.kind == LARGE_COMMUNITY && !large_communities_in(other.value).is_empty()
 }
 
 /// The large communities of a route.
@@ -77,33 +72,19 @@ pub fn large_community_texts(
     attributes: &Attributes,
 ) -> Result<Vec<String>, AllocError> {
     let mut texts = Vec::new(alloc);
-    for community in large_communities(attributes).chunks_exact(LARGE_LEN) {
+    for community in large_communities(attributes) {
         texts.push(large_community_of(alloc, community)?)?;
     }
     Ok(texts)
 }
 
-// The octets of a route's large communities; none if it has no such attribute.
-fn large_communities(attributes: &Attributes) -> &[u8] {
-    for other in attributes.others() {
-        if lists_large_communities(&other) {
-            return other.value;
-        }
-    }
-    &[]
-}
-
 // A large community: three numbers with colons between them (RFC 8092, section 5).
-fn large_community_of(alloc: Global, octets: &[u8]) -> Result<String, AllocError> {
-    match octets {
-        [a, b, c, d, e, f, g, h, i, j, k, l] => {
-            let global = u32::from_be_bytes([*a, *b, *c, *d]);
-            let first = u32::from_be_bytes([*e, *f, *g, *h]);
-            let second = u32::from_be_bytes([*i, *j, *k, *l]);
-            format!(in alloc; "{global}:{first}:{second}")
-        }
-        _ => Ok(String::new(alloc)),
-    }
+fn large_community_of(alloc: Global, octets: &[u8; LARGE_LEN]) -> Result<String, AllocError> {
+    let [a, b, c, d, e, f, g, h, i, j, k, l] = *octets;
+    let global = u32::from_be_bytes([a, b, c, d]);
+    let first = u32::from_be_bytes([e, f, g, h]);
+    let second = u32::from_be_bytes([i, j, k, l]);
+    format!(in alloc; "{global}:{first}:{second}")
 }
 
 /// The attributes of a route that decide where it goes.

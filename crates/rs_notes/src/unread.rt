@@ -6,6 +6,7 @@
 //! (RFC 8050, section 4) doesn't count. Large communities count only in an UPDATE that has NLRI.
 
 use byteorder::{BigEndian, ByteOrder};
+use rs_choice::{LARGE_COMMUNITY, large_communities_in};
 use rs_inventory::Peer;
 use rs_mrt::{AFI_IPV4, BGP4MP, BGP4MP_ET, MESSAGE_AS4, Record};
 use rs_types::split_item;
@@ -49,12 +50,6 @@ const MP_UNREACH_NLRI: u8 = 15;
 const NO_ROUTE_LEN: usize = 3;
 
 const AFI_IPV6: u16 = 2;
-
-// The type of LARGE_COMMUNITY, and how many octets each large community has, of which the first four are the Global
-// Administrator (RFC 8092, section 3).
-const LARGE_COMMUNITY: u8 = 32;
-
-const LARGE_LEN: usize = 12;
 
 // The AS number that stands for one that two octets can't hold (RFC 6793, section 9).
 const AS_TRANS: u32 = 23456;
@@ -246,12 +241,13 @@ fn has_family(value: &[u8]) -> bool {
     }
 }
 
-// Whether an attribute has a large community of the server. One that isn't a list of large communities names nothing.
+// Whether an attribute has a large community of the server, whose Global Administrator stands first (RFC 8092, section
+// 3). One that isn't a list of large communities names nothing.
 fn is_large(kind: u8, value: &[u8], server: u32) -> bool {
-    if kind != LARGE_COMMUNITY || value.len() % LARGE_LEN != 0 {
+    if kind != LARGE_COMMUNITY {
         return false;
     }
-    for community in value.chunks_exact(LARGE_LEN) {
+    for community in large_communities_in(value) {
         if community.starts_with(&server.to_be_bytes()) {
             return true;
         }
