@@ -5,3 +5,4 @@ pub mod HeldLemmas
 pub mod PutLemmas
 pub mod ChangeLemmas
 pub mod PlaceLemmas
+pub mod BestLemmas

@@ -1,20 +1,21 @@
--- What is stored for one prefix: the routes that peers have left there, and the peer whose route each client gets.
+-- What is stored for one prefix: the routes that peers have left there, and which of them each client gets.
 use Rattle.std.specs.Prelude.{◌≡◌, ◌<◌, ◌≤◌, ℕ, ◌==◌, Bool, true, if◌then◌else◌, List, length, map, Option, None}
-use Rattle.std.specs.Prelude.{slice_get, refl}
+use Rattle.std.specs.Prelude.{Some, slice_get, slice_index_or, refl}
 use Rattle.std.specs.Coded.{Coded, code_by, coded×, coded_ℕ, coded_list}
 use Rattle.std.specs.List.{All}
 use Rattle.std.specs.Option.{option_map, option_and_then}
 use Rattle.rs_choice.specs.contracts.held_route.HeldRoute as held_route
 use Rattle.rs_choice.specs.declared.held_route.HeldRoute.{HeldRoute}
-use Rattle.rs_choice.specs.Clients.{AreBest}
+use Rattle.rs_choice.specs.Clients.{chosen_for}
 use Rattle.rs_choice.specs.Decision.{SentRoute}
 use Rattle.rs_choice.specs.Held.{sent_of_held, IsJudged}
 use Rattle.rs_choice.specs.Plan.{Plan}
 use Rattle.rs_table.specs.ByPeer.{route_at, IsRow}
 use Rattle.rs_table.specs.Table.{sent_by}
 
--- The routes as they are stored, and for each client the number of the peer whose route it gets. The number is the
--- client's own if it gets no route. It also says how many routes the cell has room for.
+-- The routes as they are stored, and for each client the place, among these routes, of the route that it gets. If the
+-- client gets no route, there is none at its place, or it is the client's own. It also says how many routes the cell
+-- has room for.
 pub record CellContent : Type 0 where
   pub held : List HeldRoute
   pub bests : List ℕ
@@ -30,13 +31,37 @@ cell_code =
 abbrev pub routes_in : CellContent → List SentRoute
 routes_in cell = map sent_of_held cell.held
 
--- the route that a client gets, by the stored number of a peer
-abbrev pub route_unless_own : List SentRoute → ℕ → ℕ → Option SentRoute
-route_unless_own routes client peer =
-    if peer == client then None else option_map (sent_by peer) (route_at routes peer)
+-- a route, unless the client itself sent it
+abbrev pub unless_own : ℕ → SentRoute → Option SentRoute
+unless_own client route = if route.peer == client then None else Some route
 
+-- the route at a place, unless the client itself sent it
+abbrev pub got_at : List SentRoute → ℕ → ℕ → Option SentRoute
+got_at routes client place = option_and_then (unless_own client) (slice_get routes place)
+
+-- the route that a client gets, by the place that is stored for the client
 abbrev pub stored_best : CellContent → ℕ → Option SentRoute
-stored_best cell client = option_and_then (route_unless_own (routes_in cell) client) (slice_get cell.bests client)
+stored_best cell client = option_and_then (got_at (routes_in cell) client) (slice_get cell.bests client)
+
+-- for every client of a plan, the route at its place is the one that the client gets
+abbrev pub AreBestPlaces : Plan → List SentRoute → List ℕ → Type 0
+AreBestPlaces plan routes places =
+    (client : ℕ) → client < length plan.peers
+    → got_at routes client (slice_index_or places client 0) ≡ chosen_for plan client routes
+
+-- a peer's route is at the place; if the peer has no route, there is no route at the place
+abbrev pub IsPlaceOf : List SentRoute → ℕ → ℕ → Type 0
+IsPlaceOf routes peer place = slice_get routes place ≡ option_map (sent_by peer) (route_at routes peer)
+
+-- the route of a peer, unless the peer is the client itself
+abbrev pub got_from : List SentRoute → ℕ → ℕ → Option SentRoute
+got_from routes client peer = if peer == client then None else option_map (sent_by peer) (route_at routes peer)
+
+-- each client gets the same route by its place as by the number of the peer that sent the route
+abbrev pub ArePlacesOf : List SentRoute → List ℕ → List ℕ → Type 0
+ArePlacesOf routes peers places =
+    (client : ℕ) → client < length peers
+    → got_at routes client (slice_index_or places client 0) ≡ got_from routes client (slice_index_or peers client 0)
 
 -- routes that are stored on a prefix: at most one of each peer, and what is stored of each route is true
 pub record AreHeld (plan : Plan) (held : List HeldRoute) : Type 0 where
@@ -49,12 +74,12 @@ pub record IsUndecided (plan : Plan) (cell : CellContent) : Type 0 where
   pub count : length cell.bests ≡ length plan.peers
   pub room : length plan.peers ≤ cell.room
 
--- A cell of a prefix: it has some route. For each client it has the number of the peer whose route the client gets.
+-- A cell of a prefix: it has some route. For each client it has the place of the route that the client gets.
 pub record IsCell (plan : Plan) (cell : CellContent) : Type 0 where
   pub held : AreHeld plan cell.held
   pub some : 0 < length cell.held
   pub count : length cell.bests ≡ length plan.peers
-  pub best : AreBest plan (map sent_of_held cell.held) cell.bests
+  pub best : AreBestPlaces plan (map sent_of_held cell.held) cell.bests
 
 -- a cell of a prefix; if cells keep room, it has room for a route of every peer
 pub record IsKeptCell (keeps_room : Bool) (plan : Plan) (cell : CellContent) : Type 0 where

@@ -9,13 +9,14 @@ ghost use Rattle.std.specs.Prelude.{vec_capacity};
 ghost use Rattle.std.specs.Option.{is_some, option_map};
 ghost use Rattle.rs_choice.specs.Held.{sent_of_held, IsJudged};
 ghost use Rattle.rs_table.specs.ByPeer.{place_of, route_at, with_one, with_route, without_one, without_route};
-ghost use Rattle.rs_table.specs.ByPeer.{IsAscending};
-ghost use Rattle.rs_table.specs.Cell.{routes_in, stored_best, AreHeld, IsCell, IsKeptCell, IsUndecided};
+ghost use Rattle.rs_table.specs.ByPeer.{IsAscending, IsRow};
+ghost use Rattle.rs_table.specs.Cell.{got_at, got_from, routes_in, stored_best, AreHeld, ArePlacesOf, IsCell};
+ghost use Rattle.rs_table.specs.Cell.{IsKeptCell, IsPlaceOf, IsUndecided};
 ghost use Rattle.rs_table.specs.RouteView.{sent_route_of};
 ghost use Rattle.rs_table.specs.Table.{sent_by};
 
 use crate::route::Route;
-use rs_choice::{Exchange, HeldRoute, is_at, place_of_peer};
+use rs_choice::{Exchange, HeldRoute, MAX_PEERS, is_at, place_of_peer};
 use smallvec::SmallVec;
 use std::alloc::{AllocError, Global};
 use std::marker::Model;
@@ -24,8 +25,12 @@ use std::marker::Model;
 // would make each cell larger, and with it the map.
 const CLIENTS_INSIDE: usize = 16;
 
-// The routes on a prefix, in ascending order of their peers. For each client it has the number of the peer whose
-// route the client gets. The number is the client's own if it gets none, since no client gets a route of its own.
+// The place that stands for no route, since there is no route at it. Only if 256 peers have a route is there one at
+// each place.
+const NO_PLACE: u8 = 255;
+
+// The routes on a prefix, in ascending order of their peers. For each client it has the place, among these routes, of
+// the route that the client gets. If the client gets none, there is no route at its place, or it is the client's own.
 #[derive(Drop)]
 pub(crate) struct Cell {
     held: Vec<HeldRoute>,
@@ -156,7 +161,9 @@ impl Cell {
     {
         // For the prover: there are at most 256 peers, so there are no more routes on a prefix.
         let _peers = plan.count();
-        plan.choose_for_all(&self.held, &mut self.bests);
+        let bests: &mut [u8] = &mut self.bests;
+        plan.choose_for_all(&self.held, bests);
+        to_places(&self.held, bests);
     }
 
     // The route of a peer.
@@ -185,13 +192,75 @@ impl Cell {
     pub(crate) fn best(&self, client: usize) -> Option<Route<'_>>
         ensures { option_map sent_route_of result ≡ stored_best self.now client }
     {
-        let best = usize::from(*self.bests.get(client)?);
-        if best == client {
-            None
-        } else {
-            self.route(best)
+        let place = usize::from(*self.bests.get(client)?);
+        let route = self.held.get(place)?;
+        let peer = usize::from(route.peer);
+        if peer == client {
+            return None;
         }
+        Some(Route {
+            peer,
+            time: route.time,
+            attributes: &route.attributes,
+        })
     }
+}
+
+// The peer that was looked for last, and the place of its route.
+#[derive(Drop)]
+struct Found {
+    peer: u8,
+    place: u8,
+}
+
+// Turns the number of the peer whose route each client gets into the place of that route. Nearly all clients get the
+// same route, so the place that was found last is kept.
+fn to_places(held: &[HeldRoute], bests: &mut [u8])
+    requires row { IsRow 0 MAX_PEERS (map sent_of_held held.now) }
+    requires some { 0 < length held.now }
+    ensures count { length bests.new ≡ length bests.old }
+    ensures places { ArePlacesOf (map sent_of_held held.now) bests.old bests.new }
+{
+    let mut last = Found {
+        peer: held[0].peer,
+        place: 0,
+    };
+    for client in 0..bests.len() {
+        bests[client] = place_for(held, client, bests[client], &mut last);
+    }
+}
+
+// The place of the route that a client gets, by the number of the route's peer. The number is the client's own if it
+// gets none.
+fn place_for(held: &[HeldRoute], client: usize, peer: u8, last: &mut Found) -> u8
+    requires row { IsRow 0 MAX_PEERS (map sent_of_held held.now) }
+    requires found { IsPlaceOf (map sent_of_held held.now) last.old.peer last.old.place }
+    ensures place { got_at (map sent_of_held held.now) client result
+        ≡ got_from (map sent_of_held held.now) client peer }
+    ensures found { IsPlaceOf (map sent_of_held held.now) last.new.peer last.new.place }
+{
+    if peer == last.peer {
+        return last.place;
+    }
+    if usize::from(peer) == client && held.len() <= usize::from(NO_PLACE) {
+        return NO_PLACE;
+    }
+    let place = place_or_none(held, peer);
+    *last = Found { peer, place };
+    place
+}
+
+// The place of a peer's route, or a place without a route if the peer has none.
+fn place_or_none(held: &[HeldRoute], peer: u8) -> u8
+    requires { IsRow 0 MAX_PEERS (map sent_of_held held.now) }
+    ensures { IsPlaceOf (map sent_of_held held.now) peer result }
+{
+    let number = usize::from(peer);
+    let place = place(held, number);
+    if !is_at(held, place, number) {
+        return NO_PLACE;
+    }
+    place as u8
 }
 
 // Puts a route in the place of any that its peer has, if there is room for all routes.

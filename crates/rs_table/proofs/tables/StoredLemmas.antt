@@ -1,4 +1,5 @@
--- What a cell keeps for a client is the choice among the candidates of the client: for `best` and `cells` of tables.rt, by TablesLemmas.
+-- What a cell keeps for a client is the choice among the candidates of the client: for `decide` of cell.rt, and for `best` and `cells`
+-- of tables.rt, by TablesLemmas.
 use Rattle.std.proofs.Common.{◌≡◌, ℕ, ◌+◌, ◌≤◌, Bool, true, false, not, ◌&&◌, ◌==◌, List, [], ◌∷◌, length, filter, Option, Some, None, refl}
 use Rattle.std.proofs.Common.{sym, ap, ◌∙◌, arith, inl, inr}
 use Rattle.std.specs.List.{AllByRecursion}
@@ -14,8 +15,8 @@ use Rattle.rs_choice.specs.Naturality.{choice-All}
 use Rattle.rs_table.specs.Left.{RouteLeft}
 use Rattle.rs_table.specs.Table.{sent_by}
 use Rattle.rs_table.specs.ByPeer.{IsRow, route_at}
-use Rattle.rs_table.specs.Cell.{CellContent, IsCell, routes_in, stored_best, route_unless_own}
-use Rattle.rs_choice.specs.Clients.{best_peer_for, candidates_among, chosen_for, eligible_among, is_sent_to, peer_or_own}
+use Rattle.rs_table.specs.Cell.{CellContent, AreBestPlaces, ArePlacesOf, IsCell, got_at, got_from, routes_in, stored_best}
+use Rattle.rs_choice.specs.Clients.{AreBest, best_peer_for, candidates_among, chosen_for, eligible_among, is_sent_to, peer_or_own}
 use Rattle.rs_table.proofs.listing.SelectionLemmas.{all_places, filter_keeps, filter_none}
 use Rattle.rs_table.proofs.listing.TableLemmas.{choice-nil}
 
@@ -83,17 +84,22 @@ module _ (plan : Plan) (client : ℕ) (routes : List SentRoute) (row : IsRow 0 (
       (filter_keeps (λ (route : SentRoute). route_at routes route.peer ≡ Some (left_of route))
       (λ (route : SentRoute). is_eligible plan route.peer route.attributes) routes (each_found 0 (length plan.peers) routes row)))
 
-  pub unless_own-best : route_unless_own routes client (best_peer_for plan client routes) ≡ chosen_for plan client routes
-  unless_own-best = by_best (chosen_for plan client routes) refl
+  pub got_from-best : got_from routes client (best_peer_for plan client routes) ≡ chosen_for plan client routes
+  got_from-best = by_best (chosen_for plan client routes) refl
     where
       by_best : (o : Option SentRoute) → chosen_for plan client routes ≡ o
-          → route_unless_own routes client (peer_or_own (option_map (λ (route : SentRoute). route.peer) o) client) ≡ o
+          → got_from routes client (peer_or_own (option_map (λ (route : SentRoute). route.peer) o) client) ≡ o
       by_best None e = rw (eq-eqb client client refl) refl
       by_best (Some route) e =
           let other : IsOthers route =
           choice-All IsOthers (standing_of plan) (candidates_among plan client routes) route
           (all_places IsOthers (candidates_among plan client routes) all_others) e in
           rw other.0 (ap (option_map (sent_by route.peer)) other.1)
+
+pub places-best : (plan : Plan) (routes : List SentRoute) (peers places : List ℕ) → IsRow 0 (length plan.peers) routes
+    → length peers ≡ length plan.peers → AreBest plan routes peers → ArePlacesOf routes peers places → AreBestPlaces plan routes places
+places-best plan routes peers places row count best same client known =
+    same client (omega (arith, known, count)) ∙ ap (got_from routes client) (best client known) ∙ got_from-best plan client routes row
 
 pub best-past : (plan : Plan) (client : ℕ) (routes : List SentRoute) → length plan.peers ≤ client → chosen_for plan client routes ≡ None
 best-past plan client routes past =
@@ -106,11 +112,10 @@ pub stored : (plan : Plan) (cell : CellContent) (client : ℕ) → IsCell plan c
 stored plan cell client is =
     elim (cases_lt client (length plan.peers)) [
       | inl known ↦
-          ap (option_and_then (route_unless_own (routes_in cell) client))
+          ap (option_and_then (got_at (routes_in cell) client))
           (slice_get-get_or cell.bests client 0 (omega (arith, known, is.count)))
-          ∙ ap (route_unless_own (routes_in cell) client) (is.best client known)
-          ∙ unless_own-best plan client (routes_in cell) is.held.row
+          ∙ is.best client known
       | inr past ↦
-          ap (option_and_then (route_unless_own (routes_in cell) client)) (slice_get_past cell.bests client (omega (arith, past, is.count)))
+          ap (option_and_then (got_at (routes_in cell) client)) (slice_get_past cell.bests client (omega (arith, past, is.count)))
           ∙ sym (best-past plan client (routes_in cell) past)
     ]
