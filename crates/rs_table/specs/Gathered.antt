@@ -1,6 +1,6 @@
 -- Changes that are collected in lists, one list for each first octet of a prefix, and the routes that they leave
 -- (our choice).
-use Rattle.std.specs.Prelude.{◌≡◌, ◌≤◌, ◌/◌, ◌^◌, ℕ, ◌==◌, Bool, true, false, not, ◌&&◌, if◌then◌else◌, List, [], All}
+use Rattle.std.specs.Prelude.{◌≡◌, ◌≤◌, ◌+◌, ◌*◌, ◌/◌, ◌^◌, ℕ, ◌==◌, Bool, true, false, not, ◌&&◌, if◌then◌else◌, List, [], All}
 use Rattle.std.specs.Prelude.{Option, None, filter, length, map, reverse, slice_get, slice_index_or}
 use Rattle.std.specs.List.{find, filter_map, flat_map}
 use Rattle.std.specs.Option.{is_some, option_map, option_map_or}
@@ -43,6 +43,10 @@ IsAnnounced losses entry = (is_current losses entry ≡ true) × (announces entr
 -- the order of a compacted list: by prefix, then by peer
 abbrev pub logged_cmp : Logged → Logged → Ordering
 logged_cmp one other = ordering_then (prefix_cmp one.prefix other.prefix) (nat_cmp one.peer other.peer)
+
+-- the same order as one number: its digits to the base 256 are the address, the length and the peer
+abbrev pub rank_of : Logged → ℕ
+rank_of entry = (entry.prefix.address * 256 + entry.prefix.len) * 256 + entry.peer
 
 -- What a list of entries leaves a peer on a prefix. The last entry of this peer and prefix that is not void decides.
 -- If there is no such entry, the route from before stays.

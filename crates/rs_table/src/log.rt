@@ -79,7 +79,7 @@ pub(crate) fn compact(entries: &mut Vec<LoggedChange>, losses: &[u32]) -> Result
     entries.retain(|entry| entry.is_current(losses));
     // Later entries come first, so the first of equal ones is the last that came.
     entries.reverse();
-    entries.sort_by_key(|entry| entry.key())?;
+    entries.sort_by(|one, other| one.compare(other))?;
     entries.dedup_by_key(|entry| entry.key());
     entries.retain(|entry| entry.announces());
     Ok(())

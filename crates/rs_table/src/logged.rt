@@ -1,10 +1,11 @@
 //! A change in a list: an announcement or a withdrawal of a peer on a prefix, in 24 octets (our choice).
 
-ghost use Rattle.std.specs.Prelude.{◌≡◌};
+ghost use Rattle.std.specs.Prelude.{◌≡◌, ◌<◌};
 ghost use Rattle.std.specs.Option.{is_some, option_map};
-ghost use Rattle.rs_table.specs.Gathered.{is_current};
+ghost use Rattle.rs_table.specs.Gathered.{is_current, logged_cmp, rank_of};
 
 use rs_types::{Attributes, Prefix, a_prefix_covers_itself};
+use std::cmp::Ordering;
 use std::marker::Model;
 use std::mem::size_of;
 use std::sync::Arc;
@@ -116,7 +117,7 @@ impl LoggedChange {
         peer
     }
 
-    /// By what changes are sorted: their prefix's address and length, then their peer.
+    /// Its prefix's address and length, and its peer.
     pub(crate) fn key(&self) -> ((u32, u8), u8)
         ensures { result ≡ ((self.now.prefix.address, self.now.prefix.len), self.now.peer) }
     {
@@ -134,6 +135,22 @@ impl LoggedChange {
                 ..
             } => ((*address, *len), *peer),
         }
+    }
+
+    /// How it is sorted among others: by the address and the length of its prefix, then by its peer.
+    pub(crate) fn compare(&self, other: &LoggedChange) -> Ordering
+        ensures { result ≡ logged_cmp self.now other.now }
+    {
+        self.rank().cmp(&other.rank())
+    }
+
+    // What it is sorted by, as one number: one number is compared faster than three.
+    fn rank(&self) -> u64
+        ensures value { result ≡ rank_of self.now }
+        ensures bounds { (self.now.prefix.len < 256) × (self.now.peer < 256) }
+    {
+        let ((address, len), peer) = self.key();
+        (u64::from(address) * 256 + u64::from(len)) * 256 + u64::from(peer)
     }
 
     /// Whether its peer has lost no session since it came, by how many each peer has lost.

@@ -1,10 +1,10 @@
 -- What a list leaves once it is compacted: for `compact` of log.rt.
 use Rattle.std.proofs.Common.{◌≡◌, ℕ, Bool, true, false, cond, not, ◌&&◌, ◌==◌, List, [], ◌∷◌, ◌++◌, reverse, filter, All, Option, Some}
 use Rattle.std.proofs.Common.{None, refl, sym, ap, subst, ◌∙◌, inl, inr}
-use Rattle.std.specs.Cmp.{IsTotalOrder, Equal-is, nat_cmp_total, on_total, then_total, tied_itself}
+use Rattle.std.specs.Cmp.{IsStrictWeakOrder, IsTotalOrder, Equal-is, nat_cmp_total, on_total, then_total, tied_itself}
 use Rattle.std.specs.FinMap.{nat_cmp-IsAntisymmetric}
 use Rattle.std.specs.List.{find, list_any, dedup, dedup_from, AllByRecursion}
-use Rattle.std.specs.List.Sorted.{IsPermutation, IsSortedByKey, IsStableByKey, IsStrictlySortedBy, ties}
+use Rattle.std.specs.List.Sorted.{IsPermutation, IsSortedBy, IsStableBy, IsStrictlySortedBy, ties}
 use Rattle.std.specs.Option.{is_some, option_map, option_map_or, option_or}
 use Rattle.std.specs.Ordering.{is_eq, is_lt, nat_cmp, ordering_reverse, ordering_then}
 use Rattle.std.specs.declared.cmp.Ordering.{Ordering}
@@ -15,6 +15,7 @@ use Rattle.std.proofs.lemmas.List.{reverse-append}
 use Rattle.std.proofs.lemmas.List.Elements.{All-filter, All-head, All-tail, All-weaker, filter-append, filter_passes}
 use Rattle.std.proofs.lemmas.List.Kept.{IsStrictlySortedBy-dedup, IsStrictlySortedBy-filter}
 use Rattle.std.proofs.lemmas.List.Filters.{All-dedup}
+use Rattle.std.proofs.lemmas.List.MinMax.{ranks_by}
 use Rattle.std.proofs.lemmas.List.Sorted.{All-permutation, IsPermutation-reverse}
 use Rattle.rs_types.specs.IpPrefix.{IpPrefix}
 use Rattle.rs_types.specs.PrefixOrder.{prefix_cmp, same_prefix}
@@ -87,19 +88,20 @@ module _ {X : Type 0} (p : X → Bool) (same : X → X → Bool) (agree : (x y :
   find-dedup [] = refl
   find-dedup (x ∷ xs) = find-dedup_from x xs
 
--- ---- the keys of entries
-
-abbrev pub key : Logged → (ℕ × ℕ) × ℕ
-key entry = ((entry.prefix.address, entry.prefix.len), entry.peer)
-
-abbrev pub key_cmp : (ℕ × ℕ) × ℕ → (ℕ × ℕ) × ℕ → Ordering
-key_cmp one other = ordering_then (ordering_then (nat_cmp one.0.0 other.0.0) (nat_cmp one.0.1 other.0.1)) (nat_cmp one.1 other.1)
+-- ---- the order of entries
 
 abbrev entry_cmp : Logged → Logged → Ordering
 entry_cmp = logged_cmp
 
 entry_total : IsTotalOrder entry_cmp
 entry_total = then_total (on_total (λ (e : Logged). e.prefix) prefix_total) (on_total (λ (e : Logged). e.peer) nat_cmp_total)
+
+-- one entry is before another
+abbrev pub lower : Logged → Logged → Bool
+lower one other = is_lt (logged_cmp one other)
+
+pub lower-orders : IsStrictWeakOrder lower
+lower-orders = ranks_by entry_total (λ entry. entry)
 
 eq-then : (r s : Ordering) → is_eq (ordering_then r s) ≡ (is_eq r && is_eq s)
 eq-then Less s = refl
@@ -174,7 +176,7 @@ same_key-tells x y =
 -- ---- step by step
 
 -- after a stable sort by key a search finds the same
-find-sorted : (xs ys : List Logged) → IsStableByKey key key_cmp xs ys → (peer : ℕ) (prefix : IpPrefix)
+find-sorted : (xs ys : List Logged) → IsStableBy lower xs ys → (peer : ℕ) (prefix : IpPrefix)
     → find (is_of peer prefix) ys ≡ find (is_of peer prefix) xs
 find-sorted xs ys stable peer prefix =
     let one : Logged = of peer prefix in
@@ -282,13 +284,13 @@ module _ (losses : List ℕ) (old current turned sorted short new : List Logged)
       (all-current k d within, announced k d within)
 
   -- and ascends
-  pub ascending : IsSortedByKey key key_cmp sorted → IsStrictlySortedBy logged_cmp new
+  pub ascending : IsSortedBy lower sorted → IsStrictlySortedBy logged_cmp new
   ascending up =
       subst (IsStrictlySortedBy logged_cmp) (sym new_is)
       (IsStrictlySortedBy-filter logged_cmp announces short
       (subst (IsStrictlySortedBy logged_cmp) (sym short_is) (IsStrictlySortedBy-dedup entry_total tells sorted up)))
 
-  module _ (stable : IsStableByKey key key_cmp turned sorted) (up : IsSortedByKey key key_cmp sorted) where
+  module _ (stable : IsStableBy lower turned sorted) (up : IsSortedBy lower sorted) where
     pub compacted : (peer : ℕ) (prefix : IpPrefix) → left_in losses new peer prefix ≡ left_in losses old peer prefix
     compacted peer prefix =
         let p : Logged → Bool = is_of peer prefix in

@@ -1,0 +1,2 @@
+-- Changes in lists.
+pub mod RankLemmas
