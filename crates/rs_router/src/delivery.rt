@@ -95,6 +95,11 @@ fn offer<R: Wait>(rt: &R, sender: &mut Sender<Routed>, item: Routed)
     match sender.try_send(item) {
         Ok(_) => {}
         Err(SendRefused::Closed(_)) => unreachable!(),
-        Err(SendRefused::Full(refused)) => send_when_room(rt, sender, refused, Patience::new()),
+        Err(SendRefused::Full(refused)) => send_when_room(
+            rt,
+            sender,
+            refused,
+            &mut Patience::new(),
+        ),
     }
 }

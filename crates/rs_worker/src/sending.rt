@@ -26,10 +26,11 @@ pub(crate) fn send_all<S: Source, G: Gate>(
     ensures sent { HasSent (May S.comes S.shows session.old) out.new.sent result session.new.passed }
     ensures same { out.new.ring ≡ out.old.ring }
 {
+    let mut patience = Patience::of_many();
     for _ in rt.forever() {
         let word = next_change(session);
         let reason = closing_reason(&word);
-        send(rt, peer, word, out, gate);
+        send(rt, peer, word, out, gate, &mut patience);
         if let Some(reason) = reason {
             return reason;
         }
@@ -63,8 +64,15 @@ fn closing_reason(word: &Word) -> Option<Reason>
     }
 }
 
-// Sends a change, once there is room for it.
-fn send<G: Gate>(rt: &impl Wait, peer: usize, word: Word, out: &mut Sender<Word>, gate: &G)
+// Sends a change, once there is room for it. Patience is kept from one wait for room to the next.
+fn send<G: Gate>(
+    rt: &impl Wait,
+    peer: usize,
+    word: Word,
+    out: &mut Sender<Word>,
+    gate: &G,
+    patience: &mut Patience,
+)
     requires open { closes_any out.old.sent ≡ false }
     requires fits { length out.old.sent < 2 ^ 51 }
     ensures sent { out.new.sent ≡ out.old.sent ++ word ∷ [] }
@@ -74,6 +82,6 @@ fn send<G: Gate>(rt: &impl Wait, peer: usize, word: Word, out: &mut Sender<Word>
     match out.try_send(word) {
         Ok(_) => {}
         Err(SendRefused::Closed(_)) => unreachable!(),
-        Err(SendRefused::Full(refused)) => send_when_room(rt, out, refused, Patience::of_many()),
+        Err(SendRefused::Full(refused)) => send_when_room(rt, out, refused, patience),
     }
 }
