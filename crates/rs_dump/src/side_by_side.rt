@@ -1,8 +1,8 @@
 //! Dumps that are written at the same time: what is read of a prefix for one client is still at hand when its row is
 //! spelled for the next.
 //!
-//! Our choice: four dumps are written on one thread, some rows of each in turn. If a thread is refused, the calling
-//! thread writes them.
+//! Our choice: dumps are written on at most four threads, four or more of them on each, some rows of each in turn. If a
+//! thread is refused, the calling thread writes them.
 
 ghost use Rattle.std.specs.Prelude.{◌≡◌, ◌<◌, ℕ, length, slice_index_or};
 ghost use Rattle.rs_dump.specs.SideBySide.{CanBegin, CanGo, Goes, IsWritten, IsWrittenFrom};
@@ -11,7 +11,11 @@ use crate::table_dump::TableDump;
 use rs_mrt::Write;
 use std::thread::{Threads, for_each_chunk_mut};
 
-// How many dumps are written on one thread.
+// On how many threads dumps are written at most.
+const THREADS: usize = 4;
+
+// How many dumps are written on one thread at least. The first of them waits for what is read of a prefix, and the
+// others find it at hand.
 const DUMPS_ON_A_THREAD: usize = 4;
 
 /// A dump, and the writer that takes it.
@@ -25,7 +29,7 @@ pub struct Writing<'a, W> {
     pub failed: bool,
 }
 
-/// Writes several dumps at the same time, each to its own writer, four of them on one thread. It flushes none.
+/// Writes several dumps at the same time, each to its own writer, four or more of them on one thread. It flushes none.
 ///
 /// Afterwards each dump is written whole, unless its writer failed; then a beginning of it is written.
 pub fn write_side_by_side<T: Threads + Sync, W: Write + Send>(
@@ -44,7 +48,15 @@ pub fn write_side_by_side<T: Threads + Sync, W: Write + Send>(
             → IsWritten W.taken W.failures W.label (slice_index_or some.entry.now k d)
             (slice_index_or some.exit.now k d) }
     { write_in_turns(some) };
-    for_each_chunk_mut(rt, writings, DUMPS_ON_A_THREAD, &write);
+    let on_a_thread = on_a_thread(writings.len());
+    for_each_chunk_mut(rt, writings, on_a_thread, &write);
+}
+
+// How many of so many dumps are written on one thread.
+fn on_a_thread(dumps: usize) -> usize
+    ensures { 0 < result }
+{
+    dumps.div_ceil(THREADS).max(DUMPS_ON_A_THREAD)
 }
 
 // Writes dumps, some rows of each in turn.

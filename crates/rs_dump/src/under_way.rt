@@ -123,12 +123,17 @@ fn add_each<W: Write>(
     Ok(())
 }
 
-// How many octets the attributes of all rows have. To ask for this reads from the memory of each route. One read doesn't
-// wait for another one here, as it would between the rows that are spelled.
+// How many octets the attributes of all rows have. To ask for this reads both blocks of memory that the attributes of a
+// row have. One read doesn't wait for another one here, as it would between the rows that are spelled. Of the second
+// block the first octet is read. It is never a zero, and only a zero would count.
 fn attributes_len(rows: &[Row]) -> usize {
     let mut len: usize = 0;
     for row in rows {
-        len = len.saturating_add(row.route.attributes.written_len());
+        let spelling = row.route.attributes.spelling();
+        if spelling.first() == Some(&0) {
+            len = len.saturating_add(1);
+        }
+        len = len.saturating_add(spelling.len());
     }
     len
 }
