@@ -1,7 +1,7 @@
 //! The dumps of the clients: some are written at the same time, before each is kept in its turn.
 //!
-//! Our choices: of an exchange with more than 1,024 prefixes, up to 32 dumps are written at the same time. This
-//! bounds their memory by 2.6 MB. They are fewer if the outlet gives no writer ahead, or if memory is refused; the
+//! Our choices: of an exchange with more than 1,024 prefixes, up to 16 dumps are written at the same time. This
+//! bounds their memory by 1.3 MB. They are fewer if the outlet gives no writer ahead, or if memory is refused; the
 //! result of a run is the same. If a dump isn't kept, those behind it are lost. Memory for a dump is taken before
 //! the dump is started, so that each dump that is started is kept or lost.
 
@@ -23,7 +23,7 @@ use std::thread::Threads;
 use std::vec::IntoIter;
 
 // How many dumps are written at the same time.
-const DUMPS_AT_ONCE: usize = 32;
+const DUMPS_AT_ONCE: usize = 16;
 
 // The most prefixes of an exchange whose dumps are written one after another, since that is soon done.
 const FEW_PREFIXES: usize = 1024;
