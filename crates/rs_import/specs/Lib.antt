@@ -1,0 +1,13 @@
+-- What import policy means:
+pub mod AsRanges  -- AS numbers by ranges
+pub mod Patterns  -- patterns of prefixes
+pub mod Rpki  -- origin AS, and validity by RPKI (RFC 6811)
+pub mod Import  -- which routes are taken in
+-- How values are kept:
+pub mod ImportView  -- import policy by its fields
+-- What the contracts name of the crate below:
+pub use Rattle.rs_types.specs.IpPrefix
+pub use Rattle.rs_types.specs.PathAttributes
+pub use Rattle.rs_types.specs.Covering
+pub use Rattle.rs_types.specs.AsPath
+pub use Rattle.rs_types.specs.FirstFault

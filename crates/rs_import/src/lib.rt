@@ -1,0 +1,31 @@
+//! Import policy: which routes of its peers an exchange takes in.
+//!
+//! Standards: RFC 4271, section 9.1.1 (policy may find a route ineligible); RFC 6811 (validity by RPKI).
+//!
+//! Reading order:
+//! - What the lists have: `as_range` and `as_set` (AS numbers), `pattern` and `prefix_set` (prefixes), `vrp` and `vrps`
+//!   (VRPs, and the validity of a route by them).
+//! - What is asked of a route: `path` (of its AS_PATH), `filter` (the reason why it is not taken in), and `policy`.
+//!
+//! A call that allocates fails if memory is refused.
+#![tactic(auto)]
+
+mod as_range;
+mod as_set;
+mod filter;
+mod path;
+mod pattern;
+mod policy;
+mod prefix_set;
+mod vrp;
+mod vrps;
+
+pub use as_range::AsRange;
+pub use as_set::AsSet;
+pub use filter::Filter;
+pub use path::{first_as, origin_as};
+pub use pattern::Pattern;
+pub use policy::{ImportPolicy, ImportRules, PeerImport};
+pub use prefix_set::PrefixSet;
+pub use vrp::{Validity, Vrp};
+pub use vrps::Vrps;
