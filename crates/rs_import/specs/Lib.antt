@@ -5,6 +5,7 @@ pub mod Rpki  -- origin AS, and validity by RPKI (RFC 6811)
 pub mod Import  -- which routes are taken in
 -- How values are kept:
 pub mod ImportView  -- import policy by its fields
+pub mod Nesting  -- patterns in order, each with the nearest one that covers it
 -- What the contracts name of the crate below:
 pub use Rattle.rs_types.specs.IpPrefix
 pub use Rattle.rs_types.specs.PathAttributes

@@ -13,6 +13,7 @@
 mod as_range;
 mod as_set;
 mod filter;
+mod nesting;
 mod path;
 mod pattern;
 mod policy;

@@ -1,18 +1,20 @@
 //! Sets of prefixes by patterns.
 
-ghost use Rattle.std.specs.Prelude.{◌≡◌, ◌≤◌, ◌^◌, ◌-◌, [], IfOk, find, length};
-ghost use Rattle.std.specs.List.Sorted.{IsPermutation};
+ghost use Rattle.std.specs.Prelude.{◌≡◌, ◌≤◌, ◌^◌, ◌-◌, [], IfOk, find, length, reverse};
+ghost use Rattle.std.specs.List.Sorted.{IsNonDecreasingBy, IsPermutation};
+ghost use Rattle.rs_import.specs.Nesting.{rank_of};
 ghost use Rattle.rs_import.specs.Patterns.{is_match, matches_some};
 
+use crate::nesting::{Nesting, rank_of};
 use crate::pattern::Pattern;
 use rs_types::{Prefix, covers};
 use std::alloc::{AllocError, Global};
 use std::marker::Model;
 
-/// The prefixes that match some pattern. They are looked for fast.
+/// The prefixes that match some pattern. They are looked for fast. It takes 12 octets for each pattern.
 #[derive(Debug, Drop)]
 pub struct PrefixSet {
-    patterns: Vec<Pattern>,
+    nesting: Nesting,
 }
 
 impl Model for PrefixSet {
@@ -21,7 +23,7 @@ impl Model for PrefixSet {
 
     ghost Value = { List Pattern };
 
-    ghost view = { λ set. set.patterns.items };
+    ghost view = { λ set. set.nesting };
 }
 
 impl PrefixSet {
@@ -30,7 +32,7 @@ impl PrefixSet {
         ensures { result ≡ [] }
     {
         PrefixSet {
-            patterns: Vec::new(alloc),
+            nesting: Nesting::empty(alloc),
         }
     }
 
@@ -39,24 +41,55 @@ impl PrefixSet {
         requires { length patterns.items ≤ 2 ^ 32 - 1 }
         ensures { IfOk result (λ set. IsPermutation patterns.items set) }
     {
-        Ok(PrefixSet { patterns })
+        let alloc = *patterns.allocator();
+        let mut sorted = patterns;
+        sorted.sort_by_key(|pattern| rank_of(pattern.prefix))?;
+        let nesting = nesting_of(alloc, &sorted)?;
+        Ok(PrefixSet { nesting })
     }
 
     /// Whether some pattern matches a prefix. It takes no memory.
     pub fn matches(&self, prefix: Prefix) -> bool
         ensures { result ≡ matches_some self.now prefix }
     {
-        self.patterns
-            .iter()
-            .any(|pattern| is_match(pattern, prefix))
+        self.matching(prefix).is_some()
+    }
+
+    /// The pattern that matches a prefix: of several the most specific one, which is the last in the set's order. It takes
+    /// no memory.
+    pub fn matching(&self, prefix: Prefix) -> Option<Pattern>
+        ensures { result ≡ find (is_match prefix) (reverse self.now) }
+    {
+        let mut count = self.nesting.first(prefix);
+        while count > 0 {
+            let pattern = self.nesting.pattern(count - 1);
+            if is_match(&pattern, prefix) {
+                return Some(pattern);
+            }
+            count = self.nesting.next(prefix, count - 1);
+        }
+        None
     }
 
     /// How many patterns there are.
     pub fn len(&self) -> usize
         ensures { result ≡ length self.now }
     {
-        self.patterns.len()
+        self.nesting.len()
     }
+}
+
+// Patterns in the order of their prefixes, nested.
+fn nesting_of(alloc: Global, patterns: &[Pattern]) -> Result<Nesting, AllocError>
+    requires order { IsNonDecreasingBy (λ pattern. rank_of pattern.prefix) patterns.now }
+    requires room { length patterns.now ≤ 2 ^ 32 - 1 }
+    ensures { IfOk result (λ nesting. nesting ≡ patterns.now) }
+{
+    let mut nesting = Nesting::with_capacity(alloc, patterns.len())?;
+    for pattern in patterns {
+        nesting.push(*pattern)?;
+    }
+    Ok(nesting)
 }
 
 // Whether a pattern matches a prefix.

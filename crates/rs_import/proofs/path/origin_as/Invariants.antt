@@ -1,4 +1,4 @@
-use Rattle.std.proofs.Common.{◌≡◌, Some, map, length}
+use Rattle.std.proofs.Common.{◌≡◌, map, length}
 use Rattle.rs_types.specs.Shapes.{segments_in}
 use Rattle.rs_import.specs.Rpki.{last_or, origin_of, origin_of_segment}
 use Rattle.rs_import.proofs.path.origin_as.Given as goal

@@ -1,0 +1,4 @@
+-- Lemmas on definitions, for the proofs of this crate.
+pub mod CoverLemmas
+pub mod SearchLemmas
+pub mod SetLemmas
