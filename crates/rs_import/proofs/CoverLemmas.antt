@@ -3,15 +3,14 @@ use Rattle.std.proofs.Common.{◌≡◌, ◌∙◌, sym, ap, subst, refl, ℕ, �
 use Rattle.std.proofs.Common.{slice_index_or}
 use Rattle.std.specs.Prelude.{nat_lt, ◌==◌}
 use Rattle.std.specs.List.{AllWithin, HoldsAt}
-use Rattle.std.specs.Ordering.{nat_cmp, ordering_then, is_eq}
 use Rattle.std.proofs.Math.Nat.{div-mul-le_self, mul-div_left}
-use Rattle.std.proofs.lemmas.Bool.{and_from, and_parts, cases_Bool, cases_lt, cases_order, eq-eqb, eqb-true, le-ltb, ltb-false, both_ways, false_from_ne_true}
+use Rattle.std.proofs.lemmas.Bool.{and_from, and_parts, cases_lt, cases_order, eq-eqb, eqb-true, le-ltb, ltb-false, both_ways, false_from_ne_true}
 use Rattle.std.proofs.lemmas.List.{get_or-map, get_or_default, get_or_append_left, get_or_push, length-map, length_push}
 use Rattle.std.proofs.lemmas.Nat.{le-div, pow-add, pow_pos}
 use Rattle.rs_types.specs.Covering.{covers}
 use Rattle.rs_types.specs.IpPrefix.{IpPrefix}
 use Rattle.rs_types.specs.Prefix.{network_of}
-use Rattle.rs_types.specs.PrefixOrder.{prefix_cmp, same_prefix}
+use Rattle.rs_types.specs.PrefixOrder.{same_prefix}
 use Rattle.rs_import.specs.declared.nesting.Node.{Node}
 use Rattle.rs_import.specs.Nesting.{IsLastCover, IsNested, IsNotBefore, IsPassed, IsUpTo, IsWhole, pattern_of, prefix_of, rank_of}
 use Rattle.rs_import.specs.declared.pattern.Pattern.{Pattern}

@@ -2,3 +2,4 @@
 pub mod CoverLemmas
 pub mod SearchLemmas
 pub mod SetLemmas
+pub mod VrpLemmas

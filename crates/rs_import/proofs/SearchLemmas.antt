@@ -1,6 +1,6 @@
 -- A list from its end: what a search finds in it does not change by members that do not pass.
-use Rattle.std.proofs.Common.{◌≡◌, ◌∙◌, sym, ap, subst, refl, ℕ, zero, suc, ◌+◌, ◌-◌, ◌≤◌, ◌<◌, Bool, true, false, List, [], ◌∷◌, ◌++◌, length, take, cond, inl, inr, arith, rules, ◌||◌}
-use Rattle.std.proofs.Common.{slice_index_or, None, Some, Option}
+use Rattle.std.proofs.Common.{◌≡◌, ◌∙◌, sym, ap, refl, ℕ, zero, suc, ◌+◌, ◌-◌, ◌≤◌, ◌<◌, Bool, true, false, List, [], ◌∷◌, ◌++◌, length, take, cond, arith, ◌||◌}
+use Rattle.std.proofs.Common.{slice_index_or, None, Some}
 use Rattle.std.specs.Prelude.{find, filter, reverse}
 use Rattle.std.specs.List.{AllWithin, list_any}
 use Rattle.std.specs.Option.{is_some}
@@ -97,3 +97,8 @@ module _ {X : Type 0} (P C : X → Bool) (only : (x : X) → C x ≡ false → P
   find-step count n x some within at fails low apart =
       sym (find-walk n (count - 1) low (omega (arith, within)) apart)
       ∙ (sym (find-one P x (reverse (take (count - 1) xs)) fails) ∙ ap (find P) (sym (front-is xs count x some within at)))
+
+-- the member before an end is found first if it passes
+pub found-first : {X : Type 0} (P : X → Bool) (xs : List X) (count : ℕ) (x : X) → 0 < count → count ≤ length xs
+    → x ≡ slice_index_or xs (count - 1) x → P x ≡ true → find P (reverse (take count xs)) ≡ Some x
+found-first P xs count x some within at passes = ap (find P) (front-is xs count x some within at) ∙ rw passes refl

@@ -1,10 +1,9 @@
 -- Sets by their patterns, in order: what a search asks of those that do not cover a prefix.
-use Rattle.std.proofs.Common.{◌≡◌, ◌∙◌, sym, ap, subst, refl, ℕ, ◌-◌, ◌≤◌, ◌<◌, Bool, true, false, List, length, take, map, arith, rules, ◌&&◌}
+use Rattle.std.proofs.Common.{◌≡◌, sym, subst, ℕ, ◌≤◌, ◌<◌, false, List, length, take, arith}
 use Rattle.std.proofs.Common.{slice_index_or}
-use Rattle.std.specs.List.{AllWithin}
 use Rattle.std.specs.List.Sorted.{IsNonDecreasingBy}
 use Rattle.std.proofs.lemmas.Bool.{and_left}
-use Rattle.std.proofs.lemmas.List.{get_or_read, get_or-take, length-take, get_or-map}
+use Rattle.std.proofs.lemmas.List.{get_or_read, get_or-take, length-take}
 use Rattle.rs_types.specs.Covering.{covers}
 use Rattle.rs_types.specs.IpPrefix.{IpPrefix}
 use Rattle.rs_import.specs.declared.pattern.Pattern.{Pattern}

@@ -2,7 +2,7 @@
 -- and their order are our choice; the last one is that of RFC 6811.
 use Rattle.std.specs.Prelude.{ℕ, ◌==◌, nat_lt, nat_le, Bool, true, false, not, ◌&&◌, if◌then◌else◌, List, [], ◌∷◌}
 use Rattle.std.specs.Prelude.{Option, None, Some, slice_get}
-use Rattle.std.specs.List.{list_any, flat_map}
+use Rattle.std.specs.List.{list_any}
 use Rattle.std.specs.Option.{option_and_then, option_map_or}
 use Rattle.rs_types.specs.AsPath.{first_as_of, numbers_of, path_length_of}
 use Rattle.rs_types.specs.FirstFault.{first_fault}

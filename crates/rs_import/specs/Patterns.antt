@@ -1,5 +1,5 @@
 -- Patterns of prefixes (our choice: those of BIRD's prefix sets).
-use Rattle.std.specs.Prelude.{ℕ, nat_le, Bool, ◌&&◌, List}
+use Rattle.std.specs.Prelude.{nat_le, Bool, ◌&&◌, List}
 use Rattle.std.specs.List.{list_any}
 use Rattle.rs_types.specs.IpPrefix.{IpPrefix}
 use Rattle.rs_types.specs.Covering.{covers}

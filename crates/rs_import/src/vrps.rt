@@ -1,28 +1,36 @@
 //! Tables of VRPs, and the validity of a route by them (RFC 6811, section 2).
 
-ghost use Rattle.std.specs.Prelude.{◌≡◌, ◌≤◌, ◌^◌, ◌-◌, IfOk, length};
-ghost use Rattle.std.specs.List.{list_any};
-ghost use Rattle.std.specs.List.Sorted.{IsPermutation};
+ghost use Rattle.std.specs.Prelude.{◌≡◌, true, ◌≤◌, ◌<◌, ◌^◌, ◌-◌, IfOk, find, length, map, reverse, slice_index_or};
+ghost use Rattle.std.specs.List.{HoldsAt, list_any};
+ghost use Rattle.std.specs.List.Sorted.{IsNonDecreasingBy, IsPermutation};
+ghost use Rattle.rs_import.specs.Nesting.{rank_of};
 ghost use Rattle.rs_import.specs.Rpki.{has_origin, is_covering, is_matching, validity_of};
+ghost use Rattle.rs_import.specs.VrpsView.{IsLastCovering, pattern_of_vrp};
 
+use crate::nesting::{Nesting, rank_of};
+use crate::pattern::Pattern;
 use crate::vrp::{Validity, Vrp};
 use rs_types::{Prefix, covers};
-use std::alloc::AllocError;
+use std::alloc::{AllocError, Global};
 use std::marker::Model;
 
-/// VRPs, of which those that cover a prefix are found fast.
+/// VRPs, of which those that cover a prefix are found fast. It takes 16 octets for each VRP.
 #[derive(Debug, Drop)]
 pub struct Vrps {
-    vrps: Vec<Vrp>,
+    nesting: Nesting,
+    asns: Vec<u32>,
 }
 
 impl Model for Vrps {
-    ghost use Rattle.std.specs.Prelude.{List};
+    ghost use Rattle.std.specs.Prelude.{◌≡◌, List, length};
     ghost use Rattle.rs_import.specs.declared.vrp.Vrp.{Vrp};
+    ghost use Rattle.rs_import.specs.VrpsView.{vrps_of};
 
     ghost Value = { List Vrp };
 
-    ghost view = { λ table. table.vrps.items };
+    ghost view = { λ table. vrps_of table.nesting table.asns.items };
+
+    ghost invariant = { λ table. length table.nesting ≡ length table.asns.items };
 }
 
 impl Vrps {
@@ -31,41 +39,101 @@ impl Vrps {
         requires { length vrps.items ≤ 2 ^ 32 - 1 }
         ensures { IfOk result (λ table. IsPermutation vrps.items table) }
     {
-        Ok(Vrps { vrps })
+        let alloc = *vrps.allocator();
+        let mut sorted = vrps;
+        sorted.sort_by_key(|vrp| rank_of(vrp.prefix))?;
+        table_of(alloc, &sorted)
     }
 
     /// The validity of a route with this prefix and this origin AS, None standing for NONE. It takes no memory.
     pub fn validity(&self, prefix: Prefix, origin: Option<u32>) -> Validity
         ensures { result ≡ validity_of self.now prefix origin }
     {
-        if self.some_matches(prefix, origin) {
-            Validity::Valid
-        } else if self.some_covers(prefix) {
-            Validity::Invalid
-        } else {
+        let first = self.first(prefix);
+        if first == 0 {
             Validity::NotFound
+        } else if self.some_matches(prefix, origin, first) {
+            Validity::Valid
+        } else {
+            Validity::Invalid
         }
     }
 
-    // Whether some VRP matches a route.
-    fn some_matches(&self, prefix: Prefix, origin: Option<u32>) -> bool
+    // Whether some VRP matches a route, by the number of VRPs up to the last one that covers its prefix.
+    fn some_matches(&self, prefix: Prefix, origin: Option<u32>, first: usize) -> bool
+        requires { IsLastCovering self.now prefix (length self.now) first }
         ensures { result ≡ list_any (is_matching prefix origin) self.now }
     {
-        self.vrps.iter().any(|vrp| is_matching(vrp, prefix, origin))
+        let mut count = first;
+        while count > 0 {
+            if is_matching(&self.vrp(count - 1), prefix, origin) {
+                return true;
+            }
+            count = self.next(prefix, count - 1);
+        }
+        false
     }
 
-    // Whether some VRP covers a prefix.
-    fn some_covers(&self, prefix: Prefix) -> bool
-        ensures { result ≡ list_any (is_covering prefix) self.now }
+    // How many VRPs stand up to the last one that covers a prefix: 0 if none does.
+    pub(crate) fn first(&self, prefix: Prefix) -> usize
+        ensures { IsLastCovering self.now prefix (length self.now) result }
     {
-        self.vrps.iter().any(|vrp| is_covering(vrp, prefix))
+        self.nesting.first(prefix)
+    }
+
+    // How many VRPs stand up to the last one that covers a prefix and stands before a place where one covers it.
+    pub(crate) fn next(&self, prefix: Prefix, place: usize) -> usize
+        requires inside { place < length self.now }
+        requires covering { HoldsAt (λ vrp. is_covering prefix vrp ≡ true) self.now place }
+        ensures { IsLastCovering self.now prefix place result }
+    {
+        self.nesting.next(prefix, place)
+    }
+
+    // The VRP at a place.
+    pub(crate) fn vrp(&self, place: usize) -> Vrp
+        requires { place < length self.now }
+        ensures { result ≡ slice_index_or self.now place result }
+    {
+        let pattern = self.nesting.pattern(place);
+        Vrp {
+            prefix: pattern.prefix,
+            max_len: pattern.most,
+            asn: self.asns[place],
+        }
     }
 
     /// How many VRPs there are.
     pub fn len(&self) -> usize
         ensures { result ≡ length self.now }
     {
-        self.vrps.len()
+        self.nesting.len()
+    }
+}
+
+// The table of VRPs that are in the order of their prefixes.
+fn table_of(alloc: Global, vrps: &[Vrp]) -> Result<Vrps, AllocError>
+    requires order { IsNonDecreasingBy (λ vrp. rank_of vrp.prefix) vrps.now }
+    requires room { length vrps.now ≤ 2 ^ 32 - 1 }
+    ensures { IfOk result (λ table. table ≡ vrps.now) }
+{
+    let mut nesting = Nesting::with_capacity(alloc, vrps.len())?;
+    let mut asns = Vec::with_capacity(alloc, vrps.len())?;
+    for vrp in vrps {
+        nesting.push(pattern_of(vrp))?;
+        asns.push(vrp.asn)?;
+    }
+    Ok(Vrps { nesting, asns })
+}
+
+// The pattern of the prefixes that a VRP's AS may originate.
+fn pattern_of(vrp: &Vrp) -> Pattern
+    ensures { result ≡ pattern_of_vrp vrp.now }
+{
+    Pattern {
+        prefix: vrp.prefix,
+        least: vrp.prefix.len(),
+        most: vrp.max_len,
     }
 }
 
