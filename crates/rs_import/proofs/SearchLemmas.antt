@@ -102,3 +102,8 @@ module _ {X : Type 0} (P C : X → Bool) (only : (x : X) → C x ≡ false → P
 pub found-first : {X : Type 0} (P : X → Bool) (xs : List X) (count : ℕ) (x : X) → 0 < count → count ≤ length xs
     → x ≡ slice_index_or xs (count - 1) x → P x ≡ true → find P (reverse (take count xs)) ≡ Some x
 found-first P xs count x some within at passes = ap (find P) (front-is xs count x some within at) ∙ rw passes refl
+
+pub filter-first : {X : Type 0} (P : X → Bool) (xs : List X) (count : ℕ) (x : X) → 0 < count → count ≤ length xs
+    → x ≡ slice_index_or xs (count - 1) x → P x ≡ true
+    → filter P (reverse (take count xs)) ≡ x ∷ filter P (reverse (take (count - 1) xs))
+filter-first P xs count x some within at passes = ap (filter P) (front-is xs count x some within at) ∙ rw passes refl

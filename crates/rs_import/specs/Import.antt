@@ -2,7 +2,7 @@
 -- and their order are our choice; the last one is that of RFC 6811.
 use Rattle.std.specs.Prelude.{ℕ, ◌==◌, nat_lt, nat_le, Bool, true, false, not, ◌&&◌, if◌then◌else◌, List, [], ◌∷◌}
 use Rattle.std.specs.Prelude.{Option, None, Some, slice_get}
-use Rattle.std.specs.List.{list_any}
+use Rattle.std.specs.List.{list_any, flat_map, find}
 use Rattle.std.specs.Option.{option_and_then, option_map_or}
 use Rattle.rs_types.specs.AsPath.{first_as_of, numbers_of, path_length_of}
 use Rattle.rs_types.specs.FirstFault.{first_fault}
@@ -58,6 +58,10 @@ is_above (Some most) number = nat_lt most number
 -- whether some AS number in any segment of a path is in the ranges
 abbrev pub holds_one_of : List AsRange → List PathSegment → Bool
 holds_one_of ranges path = list_any (λ segment. list_any (λ asn. is_in_ranges ranges asn) (numbers_of segment)) path
+
+-- the first AS number of a path, segment by segment, that is in the ranges
+abbrev pub refused_as_of : List AsRange → List PathSegment → Option ℕ
+refused_as_of ranges path = find (λ asn. is_in_ranges ranges asn) (flat_map numbers_of path)
 
 -- whether a path begins with an AS_SEQUENCE whose first AS number is this one
 abbrev pub begins_with : ℕ → List PathSegment → Bool

@@ -6,6 +6,7 @@ pub mod Import  -- which routes are taken in
 -- How values are kept:
 pub mod ImportView  -- import policy by its fields
 pub mod Nesting  -- patterns in order, each with the nearest one that covers it
+pub mod CoveringView  -- an iterator by the VRPs to come
 pub mod VrpsView  -- VRPs by the patterns of their prefixes and by their ASes
 -- What the contracts name of the crate below:
 pub use Rattle.rs_types.specs.IpPrefix

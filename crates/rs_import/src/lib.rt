@@ -3,8 +3,8 @@
 //! Standards: RFC 4271, section 9.1.1 (policy may find a route ineligible); RFC 6811 (validity by RPKI).
 //!
 //! Reading order:
-//! - What the lists have: `as_range` and `as_set` (AS numbers), `pattern` and `prefix_set` (prefixes), `vrp` and `vrps`
-//!   (VRPs, and the validity of a route by them).
+//! - What the lists have: `as_range` and `as_set` (AS numbers), `pattern` and `prefix_set` (prefixes), `vrp`, `vrps`
+//!   and `covering` (VRPs, and the validity of a route by them). Both sets of prefixes are searched by `nesting`.
 //! - What is asked of a route: `path` (of its AS_PATH), `filter` (the reason why it is not taken in), and `policy`.
 //!
 //! A call that allocates fails if memory is refused.
@@ -12,6 +12,7 @@
 
 mod as_range;
 mod as_set;
+mod covering;
 mod filter;
 mod nesting;
 mod path;
@@ -23,8 +24,9 @@ mod vrps;
 
 pub use as_range::AsRange;
 pub use as_set::AsSet;
+pub use covering::Covering;
 pub use filter::Filter;
-pub use path::{first_as, origin_as};
+pub use path::{first_as, origin_as, refused_as};
 pub use pattern::Pattern;
 pub use policy::{ImportPolicy, ImportRules, PeerImport};
 pub use prefix_set::PrefixSet;

@@ -1,11 +1,11 @@
 //! What import policy asks of an AS_PATH: its origin AS (RFC 6811, section 2), its first AS and all of its AS numbers.
 
-ghost use Rattle.std.specs.Prelude.{◌≡◌, None, Some, map};
+ghost use Rattle.std.specs.Prelude.{◌≡◌, None, Some, find, map};
 ghost use Rattle.std.specs.List.{list_any};
 ghost use Rattle.rs_types.specs.AsPath.{first_as_of, numbers_of};
 ghost use Rattle.rs_types.specs.Shapes.{numbers_in, segment_in};
 ghost use Rattle.rs_import.specs.AsRanges.{is_in_ranges};
-ghost use Rattle.rs_import.specs.Import.{holds_one_of};
+ghost use Rattle.rs_import.specs.Import.{holds_one_of, refused_as_of};
 ghost use Rattle.rs_import.specs.Rpki.{last_or, origin_of, origin_of_segment};
 
 use crate::as_set::AsSet;
@@ -71,6 +71,43 @@ pub(crate) fn holds_one_of(attributes: &Attributes, set: &AsSet) -> bool
         }
     }
     false
+}
+
+/// The first AS number of a route's AS_PATH that is in a set, its segments in order. It takes no memory.
+pub fn refused_as(attributes: &Attributes, set: &AsSet) -> Option<u32>
+    ensures { result ≡ refused_as_of set.now attributes.now.path }
+{
+    let mut segments = attributes.path();
+    while let Some(segment) = segments.next() {
+        let found = first_in_segment(segment, set);
+        if found.is_some() {
+            return found;
+        }
+    }
+    None
+}
+
+// The first AS number of a segment that is in a set.
+fn first_in_segment(segment: SegmentView<'_>, set: &AsSet) -> Option<u32>
+    ensures { result ≡ find (λ asn. is_in_ranges set.now asn) (numbers_of (segment_in segment.entry)) }
+{
+    match segment {
+        SegmentView::Set(numbers) => first_held(numbers, set),
+        SegmentView::Sequence(numbers) => first_held(numbers, set),
+    }
+}
+
+// The first of some numbers that is in a set.
+fn first_held(numbers: Numbers<'_>, set: &AsSet) -> Option<u32>
+    ensures { result ≡ find (λ asn. is_in_ranges set.now asn) (numbers_in numbers.entry) }
+{
+    let mut rest = numbers;
+    while let Some(number) = rest.next() {
+        if set.holds(number) {
+            return Some(number);
+        }
+    }
+    None
 }
 
 // Whether some AS number of a segment is in a set.

@@ -3,8 +3,8 @@
 //! The conditions and their order are our choice. The first one that a route fails is the reason why the route is not
 //! taken in.
 
-ghost use Rattle.std.specs.Prelude.{◌≡◌};
-ghost use Rattle.std.specs.Option.{option_map};
+ghost use Rattle.std.specs.Prelude.{◌≡◌, slice_get};
+ghost use Rattle.std.specs.Option.{option_copied, option_map};
 ghost use Rattle.rs_import.specs.Import.{begins_with, filter_by_peer, filter_of, import_tests, is_above, is_len_taken};
 ghost use Rattle.rs_import.specs.Import.{is_origin_listed, is_prefix_listed, is_rpki_invalid, no_import, no_rules};
 ghost use Rattle.rs_types.specs.FirstFault.{first_fault};
@@ -93,6 +93,33 @@ impl PeerImport {
             as_list,
         }
     }
+
+    /// Whether anything is asked of the peer's routes.
+    pub fn is_asked(&self) -> bool
+        ensures { result ≡ self.now.is_asked }
+    {
+        self.is_asked
+    }
+
+    /// The peer's prefix list, if there is one.
+    pub fn prefix_list(&self) -> Option<&PrefixSet>
+        ensures { option_copied result ≡ self.now.prefix_list }
+    {
+        match &self.prefix_list {
+            None => None,
+            Some(list) => Some(list),
+        }
+    }
+
+    /// The peer's list of AS numbers, if there is one.
+    pub fn as_list(&self) -> Option<&AsSet>
+        ensures { option_copied result ≡ self.now.as_list }
+    {
+        match &self.as_list {
+            None => None,
+            Some(list) => Some(list),
+        }
+    }
 }
 
 impl ImportRules {
@@ -135,6 +162,13 @@ impl ImportPolicy {
         ensures { result.now ≡ self.now.rules }
     {
         &self.rules
+    }
+
+    /// What is asked of the peer of a number, if there is one.
+    pub fn peer(&self, number: usize) -> Option<&PeerImport>
+        ensures { option_copied result ≡ slice_get self.now.peers number }
+    {
+        self.peers.get(number)
     }
 
     /// The filter that does not take in a route of the peer of number `peer` and AS `sender_as`, for a server of AS
