@@ -1,6 +1,8 @@
 -- Lemmas on definitions, for the proofs of this crate.
 pub mod CoverLemmas
 pub mod SearchLemmas
+pub mod MemberLemmas
 pub mod PathLemmas
 pub mod SetLemmas
+pub mod ValidityLemmas
 pub mod VrpLemmas

@@ -57,14 +57,15 @@ no_pattern = record { prefix = record { address = 0; len = 0 }; least = 0; most 
 -- what is known of patterns, said of VRPs
 pub covering-of : (patterns : List Pattern) (asns : List ℕ) (q : IpPrefix) (end count : ℕ) → length patterns ≡ length asns
     → end ≤ length patterns → IsLastCover patterns q end count → IsLastCovering (vrps_of patterns asns) q end count
-covering-of patterns asns q end count same within last =
-    (last.0.0,
-    λ k d from before.
-    ap (λ (p : IpPrefix). covers p q) (prefix-at patterns asns k no_pattern d same (omega (arith, before, within)))
-    ∙ last.0.1 k no_pattern from before,
-    λ some k d from before.
-    ap (λ (p : IpPrefix). covers p q) (prefix-at patterns asns k no_pattern d same (omega (arith, before, within, last.0.0)))
-    ∙ last.1 some k no_pattern from before)
+covering-of patterns asns q end count same within last = (
+  last.0.0,
+  λ k d from before.
+      ap (λ (p : IpPrefix). covers p q) (prefix-at patterns asns k no_pattern d same (omega (arith, before, within)))
+      ∙ last.0.1 k no_pattern from before,
+  λ some k d from before.
+      ap (λ (p : IpPrefix). covers p q) (prefix-at patterns asns k no_pattern d same (omega (arith, before, within, last.0.0)))
+      ∙ last.1 some k no_pattern from before,
+)
 
 -- in ascending order, a VRP is before none of those in front of it
 pub vrp-not_before : (vrps : List Vrp) (i : ℕ) (x : Vrp) → IsNonDecreasingBy (λ vrp. rank_of vrp.prefix) vrps → i < length vrps

@@ -6,6 +6,7 @@
 //! - What the lists have: `as_range` and `as_set` (AS numbers), `pattern` and `prefix_set` (prefixes), `vrp`, `vrps`
 //!   and `covering` (VRPs, and the validity of a route by them). Both sets of prefixes are searched by `nesting`.
 //! - What is asked of a route: `path` (of its AS_PATH), `filter` (the reason why it is not taken in), and `policy`.
+//! - What holds of the definitions that the contracts cite: `laws`.
 //!
 //! A call that allocates fails if memory is refused.
 #![tactic(auto)]
@@ -14,6 +15,7 @@ mod as_range;
 mod as_set;
 mod covering;
 mod filter;
+mod laws;
 mod nesting;
 mod path;
 mod pattern;
@@ -26,6 +28,10 @@ pub use as_range::AsRange;
 pub use as_set::AsSet;
 pub use covering::Covering;
 pub use filter::Filter;
+pub use laws::{
+    a_policy_that_asks_nothing_takes_every_route, each_route_has_one_validity,
+    order_and_repetition_are_no_matter,
+};
 pub use path::{first_as, origin_as, refused_as};
 pub use pattern::Pattern;
 pub use policy::{ImportPolicy, ImportRules, PeerImport};

@@ -8,11 +8,12 @@ use Rattle.rs_import.proofs.vrps.Vrps.some_matches.Goals as goal
 
 pub loop-count-init : goal.loop-count-init
 loop-count-init c =
-    let q = c.args.prefix in
-    (c.requires.0,
-    find-start (is_matching q c.args.origin) (is_covering q) (matching-covers q c.args.origin) c.args.self.now no_vrp c.args.first
-    c.requires.0 c.requires.1,
-    c.requires.2)
+    let q = c.args.prefix in (
+      c.requires.0,
+      find-start (is_matching q c.args.origin) (is_covering q) (matching-covers q c.args.origin) c.args.self.now no_vrp c.args.first
+          c.requires.0 c.requires.1,
+      c.requires.2,
+    )
 
 pub next-count-requires-clause-inside : goal.next-count-requires-clause-inside
 next-count-requires-clause-inside c = omega (arith, c.loop-count.invariant.0, c.loop-count-test.true)
@@ -26,12 +27,13 @@ loop-count-preserved c =
     let q = c.args.prefix in
     let count = c.loop-count.count in
     let last = c.next-count.ensures in
-    let fails = sym c.is_matching.ensures ∙ c.if-is_matching.false in
-    (omega (arith, last.0, c.loop-count.invariant.0),
-    find-step (is_matching q c.args.origin) (is_covering q) (matching-covers q c.args.origin) c.args.self.now no_vrp count
-    c.next-count.result c.vrp.result c.loop-count-test.true c.loop-count.invariant.0 c.vrp.ensures fails last.0 last.1
-    ∙ c.loop-count.invariant.1,
-    last.2)
+    let fails = sym c.is_matching.ensures ∙ c.if-is_matching.false in (
+      omega (arith, last.0, c.loop-count.invariant.0),
+      find-step (is_matching q c.args.origin) (is_covering q) (matching-covers q c.args.origin) c.args.self.now no_vrp count
+          c.next-count.result c.vrp.result c.loop-count-test.true c.loop-count.invariant.0 c.vrp.ensures fails last.0 last.1
+          ∙ c.loop-count.invariant.1,
+      last.2,
+    )
 
 pub returns-then-is_matching : goal.returns-then-is_matching
 returns-then-is_matching c =

@@ -11,8 +11,14 @@ pattern-pattern-requires c =
 
 pub index-requires : goal.index-requires
 index-requires c =
-    omega (arith, c.requires, ap length c.self.view_is, length-vrps c.self.inside.nesting c.self.inside.asns.items c.self.invariant,
-    c.self.invariant, c.self.inside.asns.ok)
+    omega (
+      arith,
+      c.requires,
+      ap length c.self.view_is,
+      length-vrps c.self.inside.nesting c.self.inside.asns.items c.self.invariant,
+      c.self.invariant,
+      c.self.inside.asns.ok,
+    )
 
 pub returns : goal.returns
 returns c =
