@@ -36,7 +36,8 @@ PatternsInAnyOrder =
 
 abbrev pub RangesInAnyOrder : Type 0
 RangesInAnyOrder =
-    (some others : List AsRange) → HaveSameMembers some others → (asn : ℕ) → is_in_ranges some asn ≡ is_in_ranges others asn
+    (some others : List AsRange) → HaveSameMembers some others → (asn : ℕ)
+    → is_in_ranges some asn ≡ is_in_ranges others asn
 
 -- import policy that asks nothing takes every route in
 abbrev pub NoImportTakesAll : Type 0
@@ -47,7 +48,8 @@ NoImportTakesAll =
 -- a route of a peer of which nothing is asked is taken in
 abbrev pub UnaskedAreTaken : Type 0
 UnaskedAreTaken =
-    (policy : ImportPolicy) (peer : PeerImport) (own_as number sender_as : ℕ) (prefix : IpPrefix) (attributes : PathAttributes)
+    (policy : ImportPolicy) (peer : PeerImport) (own_as number sender_as : ℕ)
+    (prefix : IpPrefix) (attributes : PathAttributes)
     → slice_get policy.peers number ≡ Some peer → IsFalse peer.is_asked
     → filter_of policy own_as number sender_as prefix attributes ≡ None
 

@@ -36,7 +36,8 @@ IsUpTo nodes prefix end = AllWithin (λ node. node.address ≤ prefix.address) n
 
 -- no pattern behind the first ones, so many, and before the end covers the prefix
 abbrev pub IsPassed : List Pattern → IpPrefix → ℕ → ℕ → Type 0
-IsPassed patterns prefix count end = (count ≤ end) × AllWithin (λ pattern. covers pattern.prefix prefix ≡ false) patterns count end
+IsPassed patterns prefix count end =
+    (count ≤ end) × AllWithin (λ pattern. covers pattern.prefix prefix ≡ false) patterns count end
 
 -- so many patterns stand up to the last one before the end that covers the prefix; 0 if none does
 abbrev pub IsLastCover : List Pattern → IpPrefix → ℕ → ℕ → Type 0
@@ -46,4 +47,5 @@ IsLastCover patterns prefix end count =
 
 -- the pattern is not before any of these in the order of prefixes
 abbrev pub IsNotBefore : List Pattern → Pattern → Type 0
-IsNotBefore patterns one = AllWithin (λ pattern. rank_of pattern.prefix ≤ rank_of one.prefix) patterns 0 (length patterns)
+IsNotBefore patterns one =
+    AllWithin (λ pattern. rank_of pattern.prefix ≤ rank_of one.prefix) patterns 0 (length patterns)

@@ -7,7 +7,8 @@ use Rattle.rs_import.specs.declared.pattern.Pattern.{Pattern}
 
 -- a pattern matches the prefixes that its prefix covers, if their length is from its least to its most
 abbrev pub is_match : IpPrefix → Pattern → Bool
-is_match prefix pattern = covers pattern.prefix prefix && (nat_le pattern.least prefix.len && nat_le prefix.len pattern.most)
+is_match prefix pattern =
+    covers pattern.prefix prefix && (nat_le pattern.least prefix.len && nat_le prefix.len pattern.most)
 
 -- whether some pattern matches the prefix
 abbrev pub matches_some : List Pattern → IpPrefix → Bool

@@ -15,8 +15,8 @@ pub fn order_and_repetition_are_no_matter()
     ensures ranges { RangesInAnyOrder }
 {}
 
-/// Every route is taken in by import policy that asks nothing, and so is each route of a peer of which nothing is asked.
-/// A peer without lists is asked nothing by rules that ask nothing.
+/// Every route is taken in by import policy that asks nothing. So is each route of a peer of which nothing is asked. A
+/// peer without lists is asked nothing by rules that ask nothing.
 pub fn a_policy_that_asks_nothing_takes_every_route()
     ensures none { NoImportTakesAll }
     ensures unasked { UnaskedAreTaken }

@@ -1,20 +1,22 @@
 //! Patterns in the order of their prefixes, each with the nearest one before it that covers it.
 //!
-//! Those that cover a prefix are nested. So one binary search finds the last one that may cover it, and a walk from each
+//! Those that cover a prefix are nested. So one binary search finds the last one that may cover it. A walk from each
 //! to the nearest one before it that covers it finds the others.
 
-ghost use Rattle.std.specs.Prelude.{◌≡◌, ◌-◌, ◌≤◌, ◌<◌, ◌^◌, [], ◌∷◌, ◌++◌, IfOk, OnOk, length, map, slice_index_or, true};
+ghost use Rattle.std.specs.Prelude.{◌≡◌, ◌-◌, ◌≤◌, ◌<◌, ◌^◌, [], ◌∷◌, ◌++◌, IfOk, OnOk, length, map};
+ghost use Rattle.std.specs.Prelude.{slice_index_or, true};
 ghost use Rattle.std.specs.List.{AllWithin, HoldsAt};
 ghost use Rattle.rs_types.specs.Covering.{covers};
-ghost use Rattle.rs_import.specs.Nesting.{IsLastCover, IsNested, IsNotBefore, IsUpTo, IsWhole, pattern_of, prefix_of, rank_of};
+ghost use Rattle.rs_import.specs.Nesting.{IsLastCover, IsNested, IsNotBefore, IsUpTo, IsWhole, pattern_of};
+ghost use Rattle.rs_import.specs.Nesting.{prefix_of, rank_of};
 
 use crate::pattern::Pattern;
 use rs_types::{Prefix, a_prefix_covers_itself, covers};
 use std::alloc::{AllocError, Global};
 use std::marker::Model;
 
-// A pattern, and how many patterns stand up to the nearest one before it that covers its prefix: 0 if none does. It takes
-// 12 octets.
+// A pattern, and how many patterns stand up to the nearest one before it that covers its prefix: 0 if none does. It
+// takes 12 octets.
 #[derive(Clone, Copy, Debug)]
 pub(crate) struct Node {
     pub(crate) address: u32,

@@ -55,8 +55,8 @@ impl PrefixSet {
         self.matching(prefix).is_some()
     }
 
-    /// The pattern that matches a prefix: of several the most specific one, which is the last in the set's order. It takes
-    /// no memory.
+    /// The pattern that matches a prefix: of several the most specific one, which is the last in the set's order. It
+    /// takes no memory.
     pub fn matching(&self, prefix: Prefix) -> Option<Pattern>
         ensures { result ≡ find (is_match prefix) (reverse self.now) }
     {
