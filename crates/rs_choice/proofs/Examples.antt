@@ -10,6 +10,7 @@ use Rattle.rs_choice.specs.declared.step.Step.TheVariants as steps
 use Rattle.rs_choice.specs.declared.fault.PlanFault.TheVariants.{NoPeer, TooManyPeers, RepeatedName, RepeatedAddress, ZeroAs, UnknownName}
 use Rattle.rs_choice.specs.Plan.{Peer, Plan, plan_fault, whole_tests, is_name}
 use Rattle.rs_types.specs.FirstFault.{first_fault}
+use Rattle.rs_import.specs.Import.{no_import}
 use Rattle.rs_choice.specs.Eligibility.{is_eligible, is_inside}
 use Rattle.byteorder.specs.Endian.{big_bytes}
 use Rattle.rs_choice.specs.LargeCommunity.{has_large_community, large_communities_in}
@@ -38,7 +39,7 @@ abbrev d : Peer
 d = peer_named (codes "d") 64504 0xC000020E
 
 abbrev plan : Plan
-plan = record { local = server; peers = a ∷ b ∷ c ∷ d ∷ []; large_communities = false }
+plan = record { local = server; peers = a ∷ b ∷ c ∷ d ∷ []; large_communities = false; import = no_import }
 
 abbrev route : List ℕ → ℕ → PathAttributes
 route path next_hop =
@@ -74,7 +75,7 @@ server_as_next_hop = refl
 next_hop_elsewhere : is_eligible plan 0 (route (64501 ∷ []) 0xC6336401) ≡ false
 next_hop_elsewhere = refl
 
-next_hop_elsewhere_without_subnet : is_eligible (record { local = no_subnet; peers = a ∷ []; large_communities = false }) 0
+next_hop_elsewhere_without_subnet : is_eligible (record { local = no_subnet; peers = a ∷ []; large_communities = false; import = no_import }) 0
     (route (64501 ∷ []) 0xC6336401) ≡ true
 next_hop_elsewhere_without_subnet = refl
 
@@ -140,7 +141,7 @@ abbrev e : Peer
 e = peer_named (codes "e") 4200000001 0xC000020F
 
 abbrev counting : Plan
-counting = record { local = server; peers = a ∷ b ∷ e ∷ []; large_communities = true }
+counting = record { local = server; peers = a ∷ b ∷ e ∷ []; large_communities = true; import = no_import }
 
 abbrev not_counting : Plan
 not_counting = record counting { large_communities = false }
@@ -254,6 +255,7 @@ med_plan = record {
   peers = record (peer_named (codes "a") 64501 0xC000020B) { id = 1 } ∷ record (peer_named (codes "b") 64501 0xC000020C) { id = 9 }
       ∷ record (peer_named (codes "c") 64502 0xC000020D) { id = 5 } ∷ [];
   large_communities = false;
+  import = no_import;
 }
 
 abbrev from_a : SentRoute
@@ -333,6 +335,7 @@ tie_plan = record {
   peers = record (peer_named (codes "a") 64501 0xC000020B) { id = 0xC0000209 }
       ∷ record (peer_named (codes "b") 64501 0xC000020C) { id = 0xC0000209 } ∷ c ∷ [];
   large_communities = false;
+  import = no_import;
 }
 
 abbrev tie_of : ℕ → SentRoute
@@ -395,6 +398,7 @@ one_as = record {
   local = server;
   peers = record (peer_named (codes "a") 64501 0xC000020B) { id = 9 } ∷ record (peer_named (codes "b") 64501 0xC000020C) { id = 1 } ∷ [];
   large_communities = false;
+  import = no_import;
 }
 
 abbrev med_of : ℕ → Option ℕ → SentRoute
@@ -410,7 +414,7 @@ missing_is_zero = refl
 
 -- preference goes before path length, and path length before origin
 abbrev preferring : Plan
-preferring = record { local = server; peers = a ∷ record b { preference = 200 } ∷ []; large_communities = false }
+preferring = record { local = server; peers = a ∷ record b { preference = 200 } ∷ []; large_communities = false; import = no_import }
 
 abbrev of_origin : SentRoute
 of_origin = record { peer = 0; time = 0; attributes = record (route (64501 ∷ 65010 ∷ []) 0xC000020B) { origin = Egp } }

@@ -5,8 +5,10 @@
 use Rattle.std.specs.Prelude.{◌≡◌, ◌≢◌, ◌<◌, ℕ, Bool, IsTrue, List, length, filter, Option, None, Some, slice_get}
 use Rattle.std.specs.Prelude.{slice_index_or}
 use Rattle.std.specs.Option.{option_map}
+use Rattle.rs_types.specs.IpPrefix.{IpPrefix}
 use Rattle.rs_choice.specs.Decision.{SentRoute, standing_of, choice}
 use Rattle.rs_choice.specs.Eligibility.{is_eligible, is_eligible_from}
+use Rattle.rs_choice.specs.Acceptance.{accepts}
 use Rattle.rs_choice.specs.Plan.{Peer, Plan}
 use Rattle.rs_choice.specs.Policy.{is_permitted, is_permitted_from}
 
@@ -23,13 +25,15 @@ eligible_among plan routes = filter (λ sent. is_eligible plan sent.peer sent.at
 abbrev pub candidates_among : Plan → ℕ → List SentRoute → List SentRoute
 candidates_among plan client routes = filter (is_sent_to plan client) (eligible_among plan routes)
 
--- a client may get a route: another peer sent it, it is eligible, and export policy permits it to the client
-pub record MayGet (plan : Plan) (client : ℕ) (sent : SentRoute) : Type 0 where
+-- a client may get a route on a prefix: another peer sent it, import policy takes it in, it is eligible, and export
+-- policy permits it to the client
+pub record MayGet (plan : Plan) (prefix : IpPrefix) (client : ℕ) (sent : SentRoute) : Type 0 where
   pub receiver : Peer
   pub sender : Peer
   pub receiver_is : slice_get plan.peers client ≡ Some receiver
   pub sender_is : slice_get plan.peers sent.peer ≡ Some sender
   pub of_another : client ≢ sent.peer
+  pub accepted : IsTrue (accepts plan sent.peer prefix sent.attributes)
   pub eligible : IsTrue (is_eligible_from plan.local sender sent.attributes)
   pub permitted : IsTrue (is_permitted_from plan receiver sender sent.attributes)
 

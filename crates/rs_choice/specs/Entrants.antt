@@ -6,7 +6,7 @@ use Rattle.rs_choice.specs.declared.held_route.HeldRoute.{HeldRoute}
 use Rattle.rs_choice.specs.declared.entrants.Listed.TheInside as listed
 use Rattle.rs_choice.specs.declared.entrants.Chosen.TheInside as chosen
 use Rattle.rs_choice.specs.Decision.{standing_of_candidate, standing_of}
-use Rattle.rs_choice.specs.Held.{sent_of_held, AreEligible, IsJudged}
+use Rattle.rs_choice.specs.Held.{sent_of_held, AreCandidates, IsJudged}
 use Rattle.rs_choice.specs.Plan.{Plan}
 
 -- the standings of the candidates in a list
@@ -21,7 +21,7 @@ abbrev pub chosen_of : List HeldRoute → List ℕ → List HeldRoute
 chosen_of held places = filter_map (slice_get held) places
 
 -- The standing of a stored route; below, the standings of routes at some places of a list. Each place is in the
--- list, its route is eligible, and what is stored of the route is true.
+-- list, its route may be a candidate, and what is stored of the route is true.
 abbrev pub standing_of_held : Plan → HeldRoute → Standing
 standing_of_held plan held = standing_of plan (sent_of_held held)
 
@@ -31,4 +31,4 @@ chosen_view fields = map (standing_of_held fields.plan.now) (chosen_of fields.he
 pub record AreHeld (fields : chosen.Inside) : Type 0 where
   pub within : All (λ place. place < length fields.held.now) fields.places.now
   pub judged : All (IsJudged fields.plan.now) fields.held.now
-  pub eligible : AreEligible fields.plan.now (map sent_of_held (chosen_of fields.held.now fields.places.now))
+  pub fit : AreCandidates (chosen_of fields.held.now fields.places.now)

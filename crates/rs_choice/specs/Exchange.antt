@@ -9,6 +9,7 @@ plan_of fields = record {
   local = fields.local;
   peers = map peer_of fields.peers.items;
   large_communities = fields.large_communities;
+  import = fields.import;
 }
 
 -- the plan has no fault, and the stored refusals are those of the plan

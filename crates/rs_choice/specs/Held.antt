@@ -1,13 +1,16 @@
 -- Routes as they are stored for decisions.
-use Rattle.std.specs.Prelude.{◌≡◌, ◌≢◌, ◌<◌, ◌↔◌, ℕ, IfSome, IsTrue, List, length, slice_get, slice_index_or}
-use Rattle.std.specs.Prelude.{unwrap_or, Some}
+use Rattle.std.specs.Prelude.{◌≡◌, ◌≢◌, ◌<◌, ◌↔◌, ℕ, ◌&&◌, IfSome, IsTrue, List, filter, length, map, slice_get}
+use Rattle.std.specs.Prelude.{slice_index_or, unwrap_or, Some}
 use Rattle.std.specs.List.{All}
 use Rattle.std.specs.Option.{option_map_or}
 use Rattle.rs_types.specs.AsPath.{neighbour_of}
+use Rattle.rs_types.specs.IpPrefix.{IpPrefix}
 use Rattle.rs_types.specs.PathAttributes.{PathAttributes}
 use Rattle.rs_choice.specs.declared.candidate.Standing.{Standing}
 use Rattle.rs_choice.specs.declared.held_route.HeldRoute.{HeldRoute}
-use Rattle.rs_choice.specs.Candidacy.{is_candidate, is_open_candidate, is_plain_candidate, origin_of_candidacy}
+use Rattle.rs_choice.specs.Candidacy.{is_candidate, is_open_candidate, is_plain_candidate, is_taken_in}
+use Rattle.rs_choice.specs.Candidacy.{origin_of_candidacy}
+use Rattle.rs_choice.specs.Acceptance.{accepts}
 use Rattle.rs_choice.specs.Decision.{SentRoute, no_standing, standing_of}
 use Rattle.rs_choice.specs.Eligibility.{is_eligible}
 use Rattle.rs_choice.specs.Plan.{Peer, Plan}
@@ -38,9 +41,21 @@ AscendByPeer held =
 abbrev pub IsAt : List HeldRoute → ℕ → ℕ → Type 0
 IsAt held place peer = (one : HeldRoute) × (slice_get held place ≡ Some one) × (one.peer ≡ peer)
 
--- all routes are eligible
-abbrev pub AreEligible : Plan → List SentRoute → Type 0
-AreEligible plan routes = All (λ sent. IsTrue (is_eligible plan sent.peer sent.attributes)) routes
+-- the stored routes that import policy takes in
+abbrev pub taken_in : List HeldRoute → List SentRoute
+taken_in held = map sent_of_held (filter (λ one. is_taken_in one.candidacy) held)
+
+-- what is stored of a route says whether import policy takes it in on a prefix; below, that is so of each route
+abbrev pub IsTakenBy : Plan → IpPrefix → HeldRoute → Type 0
+IsTakenBy plan prefix held =
+    is_taken_in held.candidacy ≡ accepts plan held.peer prefix held.attributes.value
+
+abbrev pub AreTakenBy : Plan → IpPrefix → List HeldRoute → Type 0
+AreTakenBy plan prefix held = All (IsTakenBy plan prefix) held
+
+-- each stored route may be a candidate
+abbrev pub AreCandidates : List HeldRoute → Type 0
+AreCandidates held = All (λ one. IsTrue (is_candidate one.candidacy)) held
 
 -- What the decision process compares of a stored route. Preference, identifier and address are the sender's. Path
 -- length and origin are stored with the route; neighbour AS and MED are read from its attributes.
@@ -63,12 +78,13 @@ held_standing plan held =
 abbrev pub without_med : Standing → Standing
 without_med standing = record standing { neighbour = 0; med = 0 }
 
--- what is stored of a route is true under a plan; of an eligible route it is enough for a decision
+-- what is stored of a route is true under a plan; of a route that may be a candidate it is enough for a decision
 pub record IsJudged (plan : Plan) (held : HeldRoute) : Type 0 where
   pub known : held.peer < length plan.peers
-  pub eligible : is_candidate held.candidacy ≡ is_eligible plan held.peer held.attributes.value
+  pub candidate : is_candidate held.candidacy
+      ≡ (is_taken_in held.candidacy && is_eligible plan held.peer held.attributes.value)
   pub unrestricted : IsTrue (is_open_candidate held.candidacy)
-      ↔ (IsTrue (is_eligible plan held.peer held.attributes.value) × IsOpen plan held.peer held.attributes.value)
+      ↔ (IsTrue (is_candidate held.candidacy) × IsOpen plan held.peer held.attributes.value)
   pub plain : IsTrue (is_plain_candidate held.candidacy)
-      ↔ (IsTrue (is_eligible plan held.peer held.attributes.value) × IsPlain plan held.peer held.attributes.value)
+      ↔ (IsTrue (is_candidate held.candidacy) × IsPlain plan held.peer held.attributes.value)
   pub standing : IsTrue (is_candidate held.candidacy) → held_standing plan held ≡ standing_of plan (sent_of_held held)

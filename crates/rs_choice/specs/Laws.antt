@@ -6,23 +6,33 @@ use Rattle.std.specs.List.{Contains}
 use Rattle.rs_choice.specs.declared.plan.Local.{Local}
 use Rattle.rs_choice.specs.declared.step.Step.{Step}
 use Rattle.rs_choice.specs.declared.step.Step.TheVariants as steps
+use Rattle.rs_choice.specs.Acceptance.{accepted_among}
 use Rattle.rs_choice.specs.Clients.{MayGet, best_peer_for, candidates_among, is_sent_to}
 use Rattle.rs_choice.specs.Comparison.{IsAhead, Outdoes}
 use Rattle.rs_choice.specs.Eligibility.{is_eligible}
 use Rattle.rs_choice.specs.Plan.{Peer, Plan, Test, plan_fault}
 use Rattle.rs_types.specs.Community.{has_community_in}
 use Rattle.rs_types.specs.FirstFault.{first_fault}
+use Rattle.rs_types.specs.IpPrefix.{IpPrefix}
 use Rattle.rs_types.specs.PathAttributes.{PathAttributes}
+use Rattle.rs_import.specs.Import.{no_import}
 use Rattle.rs_choice.specs.LargeCommunity.{has_large_community}
 use Rattle.rs_choice.specs.Refusal.{refuses}
 use Rattle.rs_choice.specs.Policy.{is_permitted}
 use Rattle.rs_choice.specs.Decision.{SentRoute, beats, choice, decision_steps, remaining, standing_of, unbeaten}
 
--- the candidates of a client are those of the routes on a prefix that it may get
+-- the candidates of a client among the routes that are taken in are those of the routes on a prefix that it may get
 abbrev pub CandidatesMayBeGot : Type 0
 CandidatesMayBeGot =
-    (plan : Plan) (client : ℕ) (routes : List SentRoute) (route : SentRoute)
-    → Contains (candidates_among plan client routes) route ↔ (Contains routes route × MayGet plan client route)
+    (plan : Plan) (prefix : IpPrefix) (client : ℕ) (routes : List SentRoute) (route : SentRoute)
+    → Contains (candidates_among plan client (accepted_among plan prefix routes)) route
+    ↔ (Contains routes route × MayGet plan prefix client route)
+
+-- if import policy asks nothing, all routes are taken in
+abbrev pub NothingAskedTakesAllIn : Type 0
+NothingAskedTakesAllIn =
+    (plan : Plan) (prefix : IpPrefix) (routes : List SentRoute) → plan.import ≡ no_import
+    → accepted_among plan prefix routes ≡ routes
 
 -- the choice is a member of the set, and there is one unless the set is empty
 abbrev pub ChoiceIsMember : Type 0

@@ -1,6 +1,7 @@
 -- What the standards say, and export policy:
 pub mod Plan  -- the server and its peers
 pub mod Eligibility  -- which routes may be candidates
+pub mod Acceptance  -- which routes import policy takes in
 pub mod LargeCommunity  -- large communities by their numbers
 pub mod Policy  -- which routes a client may get
 pub mod Decision  -- the six steps and the choice
@@ -23,3 +24,5 @@ pub mod Checks  -- its tests over peers as they are configured
 pub mod FaultNumber  -- the number of its fault
 pub mod Exchange  -- what is kept beside it
 pub mod Refusal  -- who refuses whom, by name
+-- What the contracts name of the crates below:
+pub use Rattle.rs_import.specs.Import

@@ -5,6 +5,7 @@ use Rattle.std.specs.List.{list_any, list_all, flat_map, enumerate_from}
 use Rattle.std.specs.Char.{is_ascii_alphanumeric}
 use Rattle.std.specs.Str.{bytes_eq}
 use Rattle.rs_types.specs.FirstFault.{first_fault}
+use Rattle.rs_import.specs.Import.{ImportPolicy}
 use Rattle.rs_choice.specs.declared.plan.Local.{Local}
 use Rattle.rs_choice.specs.declared.plan.PeerSpec.{PeerSpec}
 use Rattle.rs_choice.specs.declared.plan.TheConstants.{MAX_PEERS, MAX_NAME_LEN, HYPHEN, UNDERSCORE}
@@ -21,11 +22,12 @@ pub record Peer : Type 0 where
   pub preference : ℕ
   pub refuse_from : List (List ℕ)
 
--- the server and its peers, and whether large communities count; a peer's number is its place, from 0
+-- The server and its peers, whether large communities count, and import policy. A peer's number is its place, from 0.
 pub record Plan : Type 0 where
   pub local : Local
   pub peers : List Peer
   pub large_communities : Bool
+  pub import : ImportPolicy
 
 abbrev pub peer_of : PeerSpec → Peer
 peer_of spec = record {

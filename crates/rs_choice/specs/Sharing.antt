@@ -9,7 +9,7 @@ use Rattle.rs_choice.specs.declared.held_route.HeldRoute.{HeldRoute}
 use Rattle.rs_choice.specs.Clients.{eligible_among}
 use Rattle.rs_choice.specs.Decision.{SentRoute, standing_of, choice}
 use Rattle.rs_choice.specs.Entrants.{chosen_of}
-use Rattle.rs_choice.specs.Held.{sent_of_held}
+use Rattle.rs_choice.specs.Held.{sent_of_held, taken_in}
 use Rattle.rs_choice.specs.Plan.{Plan}
 
 -- each number is a place in a list of routes
@@ -29,7 +29,7 @@ IsFirst group (Some first) = group.place ≡ first.place
 abbrev pub Weighs : Group → Option Placed → Type 0
 Weighs group first = IsTrue group.keeps_out ⊎ IsFirst group first
 
--- These are places of eligible routes, and the best route of each group that weighs is among them.
+-- These are places of routes that may be candidates, and the best route of each group that weighs is among them.
 pub record AreWeighing (eligible : List ℕ) (groups : List Group) (first : Option Placed)
     (weighing : List ℕ) : Type 0 where
   pub among : All (λ place. Contains eligible place) weighing
@@ -43,10 +43,10 @@ RestsOn plan set weighing =
     (kept : SentRoute → Bool) → ((route : SentRoute) → Contains weighing route → IsTrue (kept route)) →
     choice (standing_of plan) (filter kept set) ≡ choice (standing_of plan) set
 
--- What is decided once for all clients: the peer whose route is chosen among all eligible ones, and the places of the
+-- What is decided once for all clients: the peer whose route is chosen among all that are taken in and eligible, and the places of the
 -- routes on which that choice rests.
 pub record IsShared (plan : Plan) (held : List HeldRoute) (shared : Shared) : Type 0 where
   pub peer : shared.peer
-      ≡ option_map (λ sent. sent.peer) (choice (standing_of plan) (eligible_among plan (map sent_of_held held)))
+      ≡ option_map (λ sent. sent.peer) (choice (standing_of plan) (eligible_among plan (taken_in held)))
   pub weighing : ArePlaces held shared.weighing
-  pub rests : RestsOn plan (eligible_among plan (map sent_of_held held)) (sents_at held shared.weighing)
+  pub rests : RestsOn plan (eligible_among plan (taken_in held)) (sents_at held shared.weighing)

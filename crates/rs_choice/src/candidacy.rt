@@ -1,8 +1,8 @@
 //! What decisions need of one route by itself, in one octet.
 
 ghost use Rattle.std.specs.Prelude.{◌≡◌};
-ghost use Rattle.rs_choice.specs.Candidacy.{origin_of_candidacy, is_candidate, is_open_candidate, is_plain_candidate};
-ghost use Rattle.rs_choice.specs.Candidacy.{CandidacyOf};
+ghost use Rattle.rs_choice.specs.Candidacy.{is_candidate, is_open_candidate, is_plain_candidate, is_taken_in};
+ghost use Rattle.rs_choice.specs.Candidacy.{origin_of_candidacy, CandidacyOf};
 
 use rs_types::Origin;
 
@@ -11,6 +11,8 @@ use rs_types::Origin;
 /// has room for all this; a flag for each would take four.
 #[derive(Clone, Copy, Debug, PartialEq, Eq)]
 pub enum Candidacy {
+    /// Import policy doesn't take it in (RFC 4271, section 9.1.1): it is a candidate of no client.
+    Filtered,
     /// It isn't eligible (RFC 4271, sections 6.3 and 9.1.2): it is a candidate of no client.
     Ineligible,
     /// It isn't plain, and export policy (RFC 7947, section 2.3) refuses it to some client; its ORIGIN is IGP.
@@ -40,7 +42,7 @@ pub enum Candidacy {
 }
 
 impl Candidacy {
-    // The candidacy of an eligible route of this origin, which may be unrestricted (permitted to every client but
+    // The candidacy of a route of this origin that may be a candidate, which may be unrestricted (permitted to every client but
     // its sender) and plain.
     pub(crate) fn of(unrestricted: bool, origin: Origin, plain: bool) -> Candidacy
         ensures { CandidacyOf unrestricted origin plain result }
@@ -61,14 +63,21 @@ impl Candidacy {
         }
     }
 
-    /// Whether the route is eligible.
-    pub fn is_eligible(self) -> bool
-        ensures { result ≡ is_candidate self }
+    /// Whether import policy takes the route in.
+    pub fn is_taken_in(self) -> bool
+        ensures { result ≡ is_taken_in self }
     {
-        !matches!(self, Candidacy::Ineligible)
+        !matches!(self, Candidacy::Filtered)
     }
 
-    /// Whether it is eligible, and export policy permits it to every client but its sender.
+    /// Whether the route may be a candidate: import policy takes it in, and it is eligible.
+    pub fn is_candidate(self) -> bool
+        ensures { result ≡ is_candidate self }
+    {
+        !matches!(self, Candidacy::Filtered | Candidacy::Ineligible)
+    }
+
+    /// Whether it may be a candidate, and export policy permits it to every client but its sender.
     pub fn is_open(self) -> bool
         ensures { result ≡ is_open_candidate self }
     {
@@ -83,7 +92,7 @@ impl Candidacy {
         )
     }
 
-    /// Whether it is eligible and plain.
+    /// Whether it may be a candidate and is plain.
     pub fn is_plain(self) -> bool
         ensures { result ≡ is_plain_candidate self }
     {
@@ -98,7 +107,7 @@ impl Candidacy {
         )
     }
 
-    // The ORIGIN of an eligible route.
+    // The ORIGIN of a route that may be a candidate.
     pub(crate) fn origin(self) -> Origin
         ensures { result ≡ origin_of_candidacy self }
     {
@@ -111,7 +120,8 @@ impl Candidacy {
             | Candidacy::PlainOpenEgp
             | Candidacy::RestrictedEgp
             | Candidacy::OpenEgp => Origin::Egp,
-            Candidacy::Ineligible
+            Candidacy::Filtered
+            | Candidacy::Ineligible
             | Candidacy::PlainRestrictedIncomplete
             | Candidacy::PlainOpenIncomplete
             | Candidacy::RestrictedIncomplete

@@ -1,12 +1,12 @@
 //! Who gets which of the routes on one prefix: a decision for each client, after that client's export policy
 //! (RFC 4271, section 9.1; RFC 7947, section 2.3.2.1).
 //!
-//! What is chosen among all eligible routes is shared. It rests on few of them: on the one that is chosen,
+//! What is chosen among all routes that may be candidates is shared. It rests on few of them: on the one that is chosen,
 //! and on those that keep out another one of their neighbour AS by its higher MED. A client that may get all
 //! of these gets the shared choice. Which other routes are its own or are refused to it does not matter.
 //! Each other client has a decision of its own.
 
-ghost use Rattle.std.specs.Prelude.{◌≡◌, ◌<◌, ◌≤◌, ◌↔◌, IfSome, IsTrue, filter, length, map};
+ghost use Rattle.std.specs.Prelude.{◌≡◌, ◌<◌, ◌≤◌, ◌↔◌, IfSome, IsTrue, filter, length};
 ghost use Rattle.std.specs.List.{All};
 ghost use Rattle.std.specs.Option.{option_map};
 ghost use Rattle.rs_choice.specs.Candidacy.{is_candidate};
@@ -14,7 +14,7 @@ ghost use Rattle.rs_choice.specs.Clients.{best_peer_for, is_sent_to, peer_or_own
 ghost use Rattle.rs_choice.specs.Contenders.{AreContenders, Contends, HoldCandidates, IsOutdone};
 ghost use Rattle.rs_choice.specs.Decision.{choice, member_at, standing_of};
 ghost use Rattle.rs_choice.specs.Entrants.{chosen_of};
-ghost use Rattle.rs_choice.specs.Held.{held_standing, sent_of_held, AreEligible, IsJudged};
+ghost use Rattle.rs_choice.specs.Held.{held_standing, sent_of_held, taken_in, AreCandidates, IsJudged};
 ghost use Rattle.rs_choice.specs.Sharing.{sents_at, ArePlaces, AreWeighing, IsFirst, IsShared};
 
 use crate::candidate::{Placed, Standing};
@@ -26,7 +26,7 @@ use crate::neighbour_groups::{Group, NeighbourGroups};
 use crate::places::Places;
 use crate::plan::MAX_PEERS;
 
-// What is decided among all eligible routes.
+// What is decided among all routes that may be candidates.
 #[derive(Drop)]
 pub(crate) struct Shared {
     // The number of the peer whose route is chosen.
@@ -39,42 +39,43 @@ impl Exchange {
     /// Decides for each client which of the routes on one prefix it gets. `bests` receives for each client the
     /// number of the peer whose route it gets. The number is the client's own if it gets none.
     ///
-    /// A client gets the choice among the routes that are eligible and that export policy permits to it. No client
+    /// A client gets the choice among the routes that import policy takes in, that are eligible, and that export policy
+    /// permits to it. No client
     /// gets a route of its own. The call takes no memory.
     pub fn choose_for_all(&self, held: &[HeldRoute], bests: &mut [u8])
         requires judged { All (IsJudged self.now) held.now }
         requires bound { length held.now ≤ MAX_PEERS }
         requires count { length bests.old ≡ length self.now.peers }
         ensures count { length bests.new ≡ length self.now.peers }
-        ensures best { AreBest self.now (map sent_of_held held.now) bests.new }
+        ensures best { AreBest self.now (taken_in held.now) bests.new }
     {
         let mut groups = NeighbourGroups::new();
-        let eligible = eligible(held);
-        let shared = self.share(held, &eligible, &mut groups);
+        let fit = fit(held);
+        let shared = self.share(held, &fit, &mut groups);
         for client in 0..self.count() {
-            bests[client] = self.choose_for(held, &eligible, &shared, client, &mut groups);
+            bests[client] = self.choose_for(held, &fit, &shared, client, &mut groups);
         }
     }
 
-    // What is decided among all eligible routes. The groups are those of some other decision before and of
+    // What is decided among all routes that may be candidates. The groups are those of some other decision before and of
     // this one after: so their arrays are filled once for all clients.
-    fn share(&self, held: &[HeldRoute], eligible: &Places, groups: &mut NeighbourGroups) -> Shared
+    fn share(&self, held: &[HeldRoute], fit: &Places, groups: &mut NeighbourGroups) -> Shared
         requires judged { All (IsJudged self.now) held.now }
-        requires places { ArePlaces held.now eligible.now }
-        requires eligible { chosen_of held.now eligible.now ≡ filter (λ held. is_candidate held.candidacy) held.now }
+        requires places { ArePlaces held.now fit.now }
+        requires fit { chosen_of held.now fit.now ≡ filter (λ held. is_candidate held.candidacy) held.now }
         ensures { IsShared self.now held.now result }
     {
-        // For the prover: at most 256 routes are eligible.
-        let _count = eligible.len();
+        // For the prover: at most 256 routes may be candidates.
+        let _count = fit.len();
         let entrants = Chosen {
             plan: self,
             held,
-            places: eligible,
+            places: fit,
         };
         group_all(&entrants, groups);
         let first = first_of(&entrants, groups);
-        let weighing = weighing(eligible, groups, &first);
-        let peer = first_peer(held, eligible, &first);
+        let weighing = weighing(fit, groups, &first);
+        let peer = first_peer(held, fit, &first);
         Shared { peer, weighing }
     }
 
@@ -91,7 +92,7 @@ impl Exchange {
         requires candidates { HoldCandidates self.now client held.now places.now }
         requires shared { IsShared self.now held.now shared.now }
         requires client_known { client < length self.now.peers }
-        ensures { result ≡ best_peer_for self.now client (map sent_of_held held.now) }
+        ensures { result ≡ best_peer_for self.now client (taken_in held.now) }
     {
         // For the prover: there are at most 256 peers, so the number of each is an octet.
         let _peers = self.count();
@@ -112,7 +113,7 @@ impl Exchange {
         requires judged { All (IsJudged self.now) held.now }
         requires candidates { HoldCandidates self.now client held.now places.now }
         requires client_known { client < length self.now.peers }
-        ensures { result ≡ best_peer_for self.now client (map sent_of_held held.now) }
+        ensures { result ≡ best_peer_for self.now client (taken_in held.now) }
     {
         // For the prover: there are at most 256 peers, so the number of each is an octet.
         let _peers = self.count();
@@ -129,7 +130,7 @@ impl Exchange {
     ) -> Option<u8>
         requires judged { All (IsJudged self.now) held.now }
         requires places { ArePlaces held.now places.now }
-        requires eligible { AreEligible self.now (sents_at held.now places.now) }
+        requires fit { AreCandidates (chosen_of held.now places.now) }
         ensures { result ≡ option_map (λ sent. sent.peer)
             (choice (standing_of self.now) (sents_at held.now places.now)) }
     {
@@ -181,12 +182,12 @@ impl Exchange {
         contenders
     }
 
-    // The standing of an eligible route, if the route is permitted to a client and the last candidate doesn't outdo
+    // The standing of a route that may be a candidate, if the route is permitted to a client and the last candidate doesn't outdo
     // it.
     fn contends(&self, client: usize, one: &HeldRoute, last: &Option<Standing>) -> Option<Standing>
         requires client_known { client < length self.now.peers }
         requires judged { IsJudged self.now one.now }
-        requires eligible { IsTrue (is_candidate one.now.candidacy) }
+        requires fit { IsTrue (is_candidate one.now.candidacy) }
         ensures { Contends self.now client (sent_of_held one.now) last.now result }
     {
         if self.is_outdone(one, last) || !self.permits_held(client, one) {
@@ -220,32 +221,32 @@ fn first_peer(held: &[HeldRoute], places: &Places, first: &Option<Placed>) -> Op
     }
 }
 
-// The places of the eligible routes.
-fn eligible(held: &[HeldRoute]) -> Places
+// The places of the routes that may be candidates.
+fn fit(held: &[HeldRoute]) -> Places
     requires { length held.now ≤ MAX_PEERS }
     ensures places { ArePlaces held.now result }
-    ensures eligible { chosen_of held.now result ≡ filter (λ held. is_candidate held.candidacy) held.now }
+    ensures fit { chosen_of held.now result ≡ filter (λ held. is_candidate held.candidacy) held.now }
 {
-    let mut eligible = Places::new();
+    let mut fit = Places::new();
     for place in 0..held.len() {
-        if held[place].candidacy.is_eligible() {
-            eligible.push(place);
+        if held[place].candidacy.is_candidate() {
+            fit.push(place);
         }
     }
-    eligible
+    fit
 }
 
 // The places of the routes on which a choice rests: the chosen one, and those that remove another one of their
 // neighbour AS by MED.
-fn weighing(eligible: &Places, groups: &NeighbourGroups, first: &Option<Placed>) -> Places
-    requires { All (λ group. group.place < length eligible.now) groups.now }
-    ensures { AreWeighing eligible.now groups.now first.now result }
+fn weighing(fit: &Places, groups: &NeighbourGroups, first: &Option<Placed>) -> Places
+    requires { All (λ group. group.place < length fit.now) groups.now }
+    ensures { AreWeighing fit.now groups.now first.now result }
 {
     let mut weighing = Places::new();
     for number in 0..groups.len() {
         let group = groups.group(number);
         if group.keeps_out || is_first(&group, first) {
-            weighing.push(eligible.place(usize::from(group.place)));
+            weighing.push(fit.place(usize::from(group.place)));
         }
     }
     weighing

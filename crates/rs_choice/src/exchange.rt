@@ -2,6 +2,7 @@
 
 ghost use Rattle.std.specs.Prelude.{◌≡◌, ◌<◌, ◌≤◌, IfErr, IfOk, OnOk, None, Some, false, length, map, slice_get};
 ghost use Rattle.std.specs.List.{list_any};
+ghost use Rattle.rs_import.specs.Import.{no_import};
 ghost use Rattle.rs_choice.specs.Plan.{peer_of, plan_fault, Refuses};
 ghost use Rattle.rs_choice.specs.Checks.{refuses_spec};
 ghost use Rattle.rs_choice.specs.Refusal.{IsRefusal, IsRefusedSender, refusals_of, refused_of};
@@ -9,10 +10,11 @@ ghost use Rattle.rs_choice.specs.Refusal.{IsRefusal, IsRefusedSender, refusals_o
 use crate::checks;
 use crate::fault::PlanFault;
 use crate::plan::{Local, MAX_PEERS, PeerSpec};
+use rs_import::ImportPolicy;
 use std::alloc::{AllocError, Global};
 use std::marker::Model;
 
-/// A plan without a fault: the server and its peers.
+/// A plan without a fault: the server and its peers, with export and import policy.
 #[derive(Drop)]
 pub struct Exchange {
     local: Local,
@@ -23,6 +25,7 @@ pub struct Exchange {
     refused: Vec<bool>,
     // Whether export policy counts large communities.
     large_communities: bool,
+    import: ImportPolicy,
 }
 
 impl Model for Exchange {
@@ -39,10 +42,11 @@ impl Model for Exchange {
 
 impl Exchange {
     /// The exchange of a plan. A plan with a fault is refused by its first one; `Memory` is answered only of
-    /// a plan without a fault. Refused, the peers are dropped. Large communities don't count.
+    /// a plan without a fault. Refused, the peers are dropped. Large communities don't count, and import policy asks
+    /// nothing.
     pub fn new(alloc: Global, local: Local, peers: Vec<PeerSpec>) -> Result<Exchange, PlanFault>
         ensures plan { IfOk result (λ exchange. exchange
-            ≡ record { local = local; peers = map peer_of peers.items; large_communities = false }) }
+            ≡ record { local = local; peers = map peer_of peers.items; large_communities = false; import = no_import }) }
         ensures faultless { OnOk result (plan_fault local (map peer_of peers.items) ≡ None) }
         ensures refused { IfErr result (λ fault. Refuses fault (plan_fault local (map peer_of peers.items))) }
     {
@@ -57,6 +61,7 @@ impl Exchange {
             refusals,
             refused,
             large_communities: false,
+            import: ImportPolicy::none(alloc),
         })
     }
 
@@ -67,6 +72,22 @@ impl Exchange {
         let mut exchange = self;
         exchange.large_communities = counted;
         exchange
+    }
+
+    /// The same exchange with this import policy.
+    pub fn with_import(self, import: ImportPolicy) -> Exchange
+        ensures { result ≡ record self { import = import } }
+    {
+        let mut exchange = self;
+        exchange.import = import;
+        exchange
+    }
+
+    /// Import policy: which routes are taken in.
+    pub fn import(&self) -> &ImportPolicy
+        ensures { result.now ≡ self.now.import }
+    {
+        &self.import
     }
 
     /// Whether export policy counts large communities (RFC 8092).

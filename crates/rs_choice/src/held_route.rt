@@ -5,18 +5,20 @@
 //! policy. The other kind ties in preference, path length and origin, and has a MED or another neighbour AS than
 //! its sender.
 
-ghost use Rattle.std.specs.Prelude.{◌≡◌, ◌<◌, ◌↔◌, IsTrue, length};
+ghost use Rattle.std.specs.Prelude.{◌≡◌, ◌<◌, ◌↔◌, ◌&&◌, IsTrue, length};
 ghost use Rattle.rs_types.specs.AsPath.{path_length_of};
-ghost use Rattle.rs_choice.specs.Candidacy.{is_candidate, is_open_candidate, is_plain_candidate, origin_of_candidacy};
+ghost use Rattle.rs_choice.specs.Acceptance.{accepts};
+ghost use Rattle.rs_choice.specs.Candidacy.{is_candidate, is_open_candidate, is_plain_candidate, is_taken_in};
+ghost use Rattle.rs_choice.specs.Candidacy.{origin_of_candidacy};
 ghost use Rattle.rs_choice.specs.Clients.{is_sent_to};
 ghost use Rattle.rs_choice.specs.Eligibility.{is_eligible};
-ghost use Rattle.rs_choice.specs.Held.{held_standing, sent_of_held, without_med, IsJudged, IsOpen, IsPlain};
+ghost use Rattle.rs_choice.specs.Held.{held_standing, sent_of_held, without_med, IsJudged, IsOpen, IsPlain, IsTakenBy};
 ghost use Rattle.rs_choice.specs.Comparison.{IsAhead, Outdoes};
 
 use crate::candidacy::Candidacy;
 use crate::candidate::Standing;
 use crate::exchange::Exchange;
-use rs_types::Attributes;
+use rs_types::{Attributes, Prefix};
 use std::mem::size_of;
 use std::sync::Arc;
 
@@ -25,8 +27,9 @@ use std::sync::Arc;
 pub struct HeldRoute {
     /// The number of the peer that sent it.
     pub peer: u8,
-    /// Its ORIGIN, whether it is eligible, and whether export policy permits it to every client but its sender. Also
-    /// whether it is plain: its neighbour AS is its sender's AS, and its MED is 0 or missing.
+    /// Its ORIGIN, whether import policy takes it in, whether it is eligible, and whether export policy permits it to
+    /// every client but its sender. Also whether it is plain: its neighbour AS is its sender's AS, and its MED is 0 or
+    /// missing.
     pub candidacy: Candidacy,
     /// AS numbers in AS_PATH, an AS_SET counting 1.
     pub path_length: u16,
@@ -39,18 +42,25 @@ pub struct HeldRoute {
 const _: () = prove!(size_of::<HeldRoute>() == 16);
 
 impl Exchange {
-    /// A route of the peer of number `peer`, announced at `time`, with the values that decisions need. It takes no
-    /// memory.
-    pub fn hold(&self, peer: usize, time: u32, attributes: Arc<Attributes>) -> HeldRoute
+    /// A route of the peer of number `peer` on a prefix, announced at `time`, with the values that decisions need.
+    /// Import policy is asked here, once for the route. It takes no memory.
+    pub fn hold(
+        &self,
+        peer: usize,
+        prefix: Prefix,
+        time: u32,
+        attributes: Arc<Attributes>,
+    ) -> HeldRoute
         requires { peer < length self.now.peers }
         ensures judged { IsJudged self.now result }
+        ensures taken { IsTakenBy self.now prefix result }
         ensures peer { result.peer ≡ peer }
         ensures time { result.time ≡ time }
         ensures attributes { result.attributes ≡ attributes }
     {
         // For the prover: there are at most 256 peers, so the number of each is an octet.
         let _peers = self.count();
-        let candidacy = self.candidacy(peer, &attributes);
+        let candidacy = self.candidacy(peer, prefix, &attributes);
         let path_length = path_length(&attributes);
         HeldRoute {
             peer: peer as u8,
@@ -62,21 +72,24 @@ impl Exchange {
     }
 
     // What decisions need of a peer's route by itself.
-    fn candidacy(&self, peer: usize, attributes: &Attributes) -> Candidacy
+    fn candidacy(&self, peer: usize, prefix: Prefix, attributes: &Attributes) -> Candidacy
         requires { peer < length self.now.peers }
-        ensures eligible { is_candidate result ≡ is_eligible self.now peer attributes.now }
+        ensures taken { is_taken_in result ≡ accepts self.now peer prefix attributes.now }
+        ensures candidate { is_candidate result ≡ (is_taken_in result && is_eligible self.now peer attributes.now) }
         ensures unrestricted { IsTrue (is_open_candidate result)
-            ↔ (IsTrue (is_eligible self.now peer attributes.now) × IsOpen self.now peer attributes.now) }
+            ↔ (IsTrue (is_candidate result) × IsOpen self.now peer attributes.now) }
         ensures origin { IsTrue (is_candidate result) → origin_of_candidacy result ≡ attributes.now.origin }
         ensures plain { IsTrue (is_plain_candidate result)
-            ↔ (IsTrue (is_eligible self.now peer attributes.now) × IsPlain self.now peer attributes.now) }
+            ↔ (IsTrue (is_candidate result) × IsPlain self.now peer attributes.now) }
     {
-        if self.eligible(peer, attributes) {
-            let plain = self.is_plain(peer, attributes);
-            Candidacy::of(self.is_open(peer, attributes), attributes.origin(), plain)
-        } else {
-            Candidacy::Ineligible
+        if !self.accepts(peer, prefix, attributes) {
+            return Candidacy::Filtered;
         }
+        if !self.eligible(peer, attributes) {
+            return Candidacy::Ineligible;
+        }
+        let plain = self.is_plain(peer, attributes);
+        Candidacy::of(self.is_open(peer, attributes), attributes.origin(), plain)
     }
 
     // Whether the neighbour AS of a route is its sender's AS, and its MED is 0 or missing.

@@ -2,14 +2,20 @@
 
 ghost use Rattle.rs_choice.specs.Laws.{BehindIsNoMatter, CandidatesMayBeGot, ChoiceIgnoresOrder, ChoiceIsMember};
 ghost use Rattle.rs_choice.specs.Laws.{ChoiceIsUnbeaten};
-ghost use Rattle.rs_choice.specs.Laws.{ChoiceStays, FaultIsFirst, MedDecidesWithinNeighbour, OpenPolicySharesChoice};
+ghost use Rattle.rs_choice.specs.Laws.{ChoiceStays, FaultIsFirst, MedDecidesWithinNeighbour, NothingAskedTakesAllIn};
+ghost use Rattle.rs_choice.specs.Laws.{OpenPolicySharesChoice};
 ghost use Rattle.rs_choice.specs.Laws.{OthersAreNoMatter, OutdoneIsNoMatter, PeersHaveOwnAddresses, PolicyIgnoresOrder};
 ghost use Rattle.rs_choice.specs.Laws.{RemovedIsNoMatter, UncountedAreNoMatter};
 
-/// The candidates of a client for a prefix are the eligible routes of other peers that export policy permits to it
-/// (RFC 4271, section 9.1.2; RFC 7947, section 2.3).
+/// The candidates of a client for a prefix are the eligible routes of other peers that import policy takes in and that
+/// export policy permits to it (RFC 4271, sections 9.1.1 and 9.1.2; RFC 7947, section 2.3).
 pub fn candidates_may_be_got()
     ensures { CandidatesMayBeGot }
+{}
+
+/// If import policy asks nothing, it takes all routes in.
+pub fn all_routes_are_taken_in_if_nothing_is_asked()
+    ensures { NothingAskedTakesAllIn }
 {}
 
 /// The choice among candidates is one of them, and there is one unless there is no candidate. At each step of

@@ -2,7 +2,7 @@
 -- and the places of the eligible routes, for `choose_for_all` and `common`.
 use Rattle.std.proofs.Common.{◌≡◌, ◌∙◌, sym, ap, subst, refl, ℕ, ◌<◌, arith, Bool, true, cond, List, [], ◌∷◌, length, map, get_or, Option}
 use Rattle.std.proofs.Common.{Some, None}
-use Rattle.std.specs.Prelude.{slice_get, filter, IfSome}
+use Rattle.std.specs.Prelude.{slice_get, filter, IfSome, ◌&&◌}
 use Rattle.std.specs.List.{All, Contains}
 use Rattle.std.specs.Option.{option_map, MatchOption}
 use Rattle.std.proofs.lemmas.Bool.{cond_both}
@@ -13,14 +13,14 @@ use Rattle.rs_choice.specs.declared.candidate.Standing.{Standing}
 use Rattle.rs_choice.specs.declared.candidate.Placed.{Placed}
 use Rattle.rs_choice.specs.declared.held_route.HeldRoute.{HeldRoute}
 use Rattle.rs_choice.specs.declared.neighbour_groups.Group.{Group}
-use Rattle.rs_choice.specs.Candidacy.{is_candidate}
+use Rattle.rs_choice.specs.Candidacy.{is_candidate, is_taken_in}
 use Rattle.rs_choice.specs.Clients.{candidates_among, eligible_among, is_sent_to}
 use Rattle.rs_choice.specs.Contenders.{HoldCandidates}
 use Rattle.rs_choice.specs.Decision.{SentRoute, choice, member_at, standing_of}
 use Rattle.rs_choice.specs.Eligibility.{is_eligible}
 use Rattle.rs_choice.specs.Entrants.{chosen_of, standing_of_held}
 use Rattle.rs_choice.specs.Grouping.{places_of, standing_in, AreGroups, IsFirstOf}
-use Rattle.rs_choice.specs.Held.{sent_of_held, AreEligible, IsJudged}
+use Rattle.rs_choice.specs.Held.{sent_of_held, taken_in, AreCandidates, IsJudged}
 use Rattle.rs_choice.specs.Naturality.{choice-map, filter-map}
 use Rattle.rs_choice.specs.Plan.{Plan}
 use Rattle.rs_choice.specs.Sharing.{sents_at, ArePlaces, AreWeighing, RestsOn, Weighs}
@@ -33,27 +33,41 @@ pub view_length : (plan : Plan) (held : List HeldRoute) (places : List ℕ) → 
     length (map (standing_of_held plan) (chosen_of held places)) ≡ length places
 view_length plan held places all = length-map (chosen_of held places) (standing_of_held plan) ∙ chosen_length held places all
 
--- the eligible routes, by what is stored of each one
-eligible_alike : (plan : Plan) (held : List HeldRoute) → All (IsJudged plan) held →
-    filter (λ (one : HeldRoute). is_candidate one.candidacy) held
-    ≡ filter (λ (one : HeldRoute). is_eligible plan one.peer one.attributes.value) held
-eligible_alike plan [] all = refl
-eligible_alike plan (one ∷ later) all =
+abbrev is_fit : HeldRoute → Bool
+is_fit one = is_candidate one.candidacy
+
+abbrev is_in : HeldRoute → Bool
+is_in one = is_taken_in one.candidacy
+
+abbrev is_eligible_held : Plan → HeldRoute → Bool
+is_eligible_held plan one = is_eligible plan one.peer one.attributes.value
+
+-- the routes that may be candidates, by what is stored of each one: the eligible ones of those that are taken in
+fit_alike : (plan : Plan) (held : List HeldRoute) → All (IsJudged plan) held →
+    filter is_fit held ≡ filter (is_eligible_held plan) (filter is_in held)
+fit_alike plan [] all = refl
+fit_alike plan (one ∷ later) all =
     let judged = all 0 one (omega arith) in
-    let rest = eligible_alike plan later (All-tail (IsJudged plan) one later all) in
-    ap (λ b. cond b (one ∷ filter (λ (one : HeldRoute). is_candidate one.candidacy) later)
-    (filter (λ (one : HeldRoute). is_candidate one.candidacy) later)) judged.eligible
-    ∙ ap (λ list. cond (is_eligible plan one.peer one.attributes.value) (one ∷ list) list) rest
+    let rest = fit_alike plan later (All-tail (IsJudged plan) one later all) in
+    cond_both (is_in one) (one ∷ filter is_in later) (filter is_in later)
+    (λ list. filter is_fit (one ∷ later) ≡ filter (is_eligible_held plan) list)
+    (λ taken. ap (λ b. cond b (one ∷ filter is_fit later) (filter is_fit later))
+    (judged.candidate ∙ ap (λ b. b && is_eligible_held plan one) taken)
+    ∙ ap (λ list. cond (is_eligible_held plan one) (one ∷ list) list) rest)
+    (λ refused. ap (λ b. cond b (one ∷ filter is_fit later) (filter is_fit later))
+    (judged.candidate ∙ ap (λ b. b && is_eligible_held plan one) refused)
+    ∙ rest)
 
 pub eligible_sents : (plan : Plan) (held : List HeldRoute) (places : List ℕ) → All (IsJudged plan) held →
     chosen_of held places ≡ filter (λ (one : HeldRoute). is_candidate one.candidacy) held
-    → sents_at held places ≡ eligible_among plan (map sent_of_held held)
+    → sents_at held places ≡ eligible_among plan (taken_in held)
 eligible_sents plan held places all is =
-    ap (map sent_of_held) (is ∙ eligible_alike plan held all)
-    ∙ sym (filter-map sent_of_held (λ (sent : SentRoute). is_eligible plan sent.peer sent.attributes) held)
+    ap (map sent_of_held) (is ∙ fit_alike plan held all)
+    ∙ sym (filter-map sent_of_held (λ (sent : SentRoute). is_eligible plan sent.peer sent.attributes) (filter is_in held))
 
-pub eligible_all : (plan : Plan) (routes : List SentRoute) → AreEligible plan (eligible_among plan routes)
-eligible_all plan routes = filter_passes (λ (sent : SentRoute). is_eligible plan sent.peer sent.attributes) routes
+pub fit_all : (held : List HeldRoute) (places : List ℕ)
+    → chosen_of held places ≡ filter (λ (one : HeldRoute). is_candidate one.candidacy) held → AreCandidates (chosen_of held places)
+fit_all held places is = subst AreCandidates (sym is) (filter_passes is_fit held)
 
 -- a test passes all that it left
 filter_twice : {X : Type 0} (p : X → Bool) (xs : List X) → filter p (filter p xs) ≡ filter p xs
@@ -63,17 +77,17 @@ filter_twice p (x ∷ xs) = cond_both (p x) (x ∷ filter p xs) (filter p xs) (�
     (λ fails. filter_twice p xs)
 
 -- the candidates of each client are among the eligible routes
-pub eligible_hold : (plan : Plan) (held : List HeldRoute) (places : List ℕ) → All (IsJudged plan) held → ArePlaces held places →
+pub fit_hold : (plan : Plan) (held : List HeldRoute) (places : List ℕ) → All (IsJudged plan) held → ArePlaces held places →
     chosen_of held places ≡ filter (λ (one : HeldRoute). is_candidate one.candidacy) held → (client : ℕ)
     → HoldCandidates plan client held places
-eligible_hold plan held places judged within is client =
+fit_hold plan held places judged within is client =
     let same = eligible_sents plan held places judged is in
     record {
       within = within;
-      eligible = subst (AreEligible plan) (sym same) (eligible_all plan (map sent_of_held held));
+      fit = fit_all held places is;
       same = ap (candidates_among plan client) same
           ∙ ap (filter (is_sent_to plan client)) (filter_twice (λ (sent : SentRoute). is_eligible plan sent.peer sent.attributes)
-          (map sent_of_held held));
+          (taken_in held));
     }
 
 -- what holds of what was found, and of what is put where nothing was, holds of what is there then

@@ -2,20 +2,18 @@
 use Rattle.std.proofs.Common.{◌≡◌, ◌∙◌, sym, ap, subst, Bool, true, false, ◌⊎◌, inl, inr, List, [], ◌∷◌, ◌++◌, Option, Some, None, ℕ}
 use Rattle.std.proofs.lemmas.Bool.{cases_Bool}
 use Rattle.std.specs.Prelude.{slice_get}
-use Rattle.std.specs.Option.{option_map}
 use Rattle.std.proofs.lemmas.List.{append-nil, append_assoc}
-use Rattle.std.proofs.lemmas.Option.{get_or_from_slice_get, slice_get-map, slice_get_within}
+use Rattle.std.proofs.lemmas.Option.{get_or_from_slice_get, slice_get_within}
 use Rattle.rs_choice.specs.declared.held_route.HeldRoute.{HeldRoute}
 use Rattle.rs_choice.specs.declared.candidate.Standing.{Standing}
+use Rattle.rs_choice.specs.Candidacy.{is_candidate}
 use Rattle.rs_choice.specs.Clients.{candidates_among, is_sent_to}
 use Rattle.rs_choice.specs.Comparison.{Outdoes}
 use Rattle.rs_choice.specs.Contenders.{Contends, HoldCandidates}
 use Rattle.rs_choice.specs.Decision.{SentRoute, choice, standing_of}
 use Rattle.rs_choice.specs.Eligibility.{is_eligible}
 use Rattle.rs_choice.specs.Entrants.{chosen_of}
-use Rattle.rs_choice.specs.Held.{sent_of_held}
 use Rattle.rs_choice.specs.Plan.{Plan}
-use Rattle.rs_choice.specs.Sharing.{sents_at}
 use Rattle.rs_choice.proofs.clients.ChosenLemmas.{chosen_at}
 use Rattle.rs_choice.proofs.decision.BehindLemmas.{candidates_with, no_candidate, outdone}
 use Rattle.rs_choice.proofs.Members.{Mem, mem-append_left}
@@ -84,15 +82,12 @@ module _ (plan : Plan) (client : ℕ) (routes : List SentRoute) (one : SentRoute
     without_one (Some standing) has (inr outdoes) =
         without_outdone has.0 has.1 (rw has.2 at outdoes)
 
--- a route at one of the places among which candidates are is eligible
-pub eligible_at : (plan : Plan) (client : ℕ) (held : List HeldRoute) (places : List ℕ) → HoldCandidates plan client held places →
+-- a route at one of the places among which candidates are may be a candidate
+pub fit_at : (plan : Plan) (client : ℕ) (held : List HeldRoute) (places : List ℕ) → HoldCandidates plan client held places →
     (i place : ℕ) (one : HeldRoute) → slice_get places i ≡ Some place → slice_get held place ≡ Some one
-    → is_eligible plan one.peer one.attributes.value ≡ true
-eligible_at plan client held places among i place one at_places at =
-    let sents = sents_at held places in
-    let sent : slice_get sents i ≡ Some (sent_of_held one) =
-    slice_get-map sent_of_held (chosen_of held places) i ∙ ap (option_map sent_of_held)
-    (chosen_at held places among.within i place at_places ∙ at) in
-    subst (λ (sent : SentRoute). is_eligible plan sent.peer sent.attributes ≡ true)
-    (get_or_from_slice_get sents i (sent_of_held one) (sent_of_held one) sent)
-    (among.eligible i (sent_of_held one) (slice_get_within sents i (sent_of_held one) sent))
+    → is_candidate one.candidacy ≡ true
+fit_at plan client held places among i place one at_places at =
+    let chosen = chosen_of held places in
+    let there : slice_get chosen i ≡ Some one = chosen_at held places among.within i place at_places ∙ at in
+    subst (λ (one : HeldRoute). is_candidate one.candidacy ≡ true) (get_or_from_slice_get chosen i one one there)
+    (among.fit i one (slice_get_within chosen i one there))

@@ -1,6 +1,6 @@
 -- The entrants of chosen routes: how many there are, and that the standing of each is the stored one. For
 -- entrants.rt.
-use Rattle.std.proofs.Common.{◌≡◌, ◌∙◌, sym, ap, ◌<◌, length, map, Some, ℕ, List, get_or}
+use Rattle.std.proofs.Common.{◌≡◌, ◌∙◌, sym, ap, ◌<◌, length, Some, ℕ, List, get_or}
 use Rattle.std.specs.Option.{option_map}
 use Rattle.std.specs.Prelude.{slice_get, IsTrue}
 use Rattle.std.proofs.lemmas.List.{length-map}
@@ -9,11 +9,11 @@ use Rattle.std.proofs.lemmas.Option.{get_or_from_slice_get, slice_get-get_or, sl
 use Rattle.rs_choice.specs.declared.candidate.Standing.{Standing}
 use Rattle.rs_choice.specs.declared.entrants.Chosen.TheInside.{Inside}
 use Rattle.rs_choice.specs.declared.held_route.HeldRoute.{HeldRoute}
-use Rattle.rs_choice.specs.Decision.{SentRoute, no_standing}
-use Rattle.rs_choice.specs.Eligibility.{is_eligible}
+use Rattle.rs_choice.specs.Decision.{no_standing}
+use Rattle.rs_choice.specs.Candidacy.{is_candidate}
 use Rattle.rs_choice.specs.Entrants.{chosen_of, chosen_view, standing_of_held, AreHeld}
 use Rattle.rs_choice.specs.Grouping.{standing_in}
-use Rattle.rs_choice.specs.Held.{held_standing, sent_of_held, IsJudged}
+use Rattle.rs_choice.specs.Held.{held_standing, IsJudged}
 use Rattle.rs_choice.specs.Plan.{Plan}
 use Rattle.rs_choice.proofs.Members.{contains_at}
 use Rattle.rs_choice.proofs.clients.ChosenLemmas.{chosen_at, chosen_length, within_at}
@@ -45,14 +45,10 @@ module _ (fields : Inside) (standings : List Standing) (are : AreHeld fields) (v
         let judged = judged_there d in
         let at_chosen : slice_get chosen k ≡ Some one =
         chosen_at held fields.places.now are.within k place at ∙ slice_get-get_or held place d held_there in
-        let at_sents : slice_get (map sent_of_held chosen) k ≡ Some (sent_of_held one) =
-        slice_get-map sent_of_held chosen k ∙ ap (option_map sent_of_held) at_chosen in
-        let eligible =
-        All-contains (λ (sent : SentRoute). IsTrue (is_eligible plan sent.peer sent.attributes)) (map sent_of_held chosen)
-        (sent_of_held one) are.eligible
-        (contains_at (map sent_of_held chosen) k (sent_of_held one) at_sents) in
+        let fit =
+        All-contains (λ (one : HeldRoute). IsTrue (is_candidate one.candidacy)) chosen one are.fit (contains_at chosen k one at_chosen) in
         let at_view : slice_get (chosen_view fields) k ≡ Some (standing_of_held plan one) =
         slice_get-map (standing_of_held plan) chosen k ∙ ap (option_map (standing_of_held plan)) at_chosen in
-        judged.standing (judged.eligible ∙ eligible)
+        judged.standing fit
         ∙ sym (ap (λ view. standing_in view k) (sym view)
         ∙ get_or_from_slice_get (chosen_view fields) k (standing_of_held plan one) no_standing at_view)

@@ -16,7 +16,7 @@ contains_last xs last x same = Contains-append_right xs (last ∷ []) x (0, omeg
 
 pub loop-number-preserved : goal.loop-number-preserved
 loop-number-preserved c =
-    let eligible = c.args.eligible.now in
+    let fit = c.args.fit.now in
     let groups = c.args.groups.now in
     let first = c.args.first.now in
     let n = c.loop-number.number in
@@ -25,18 +25,18 @@ loop-number-preserved c =
     elim c.if-group.branch [
       | then-group w ↦
           let place = w.place.result in
-          let at : slice_get eligible one.place ≡ Some place = rw w.from.ensures at w.place.ensures.value in
+          let at : slice_get fit one.place ≡ Some place = rw w.from.ensures at w.place.ensures.value in
           rw (w.weighing-is, w.push.ensures) (record {
             few = omega (arith, length_push so_far place, c.loop-number.invariant.few);
-            among = All-push (λ place. Contains eligible place) so_far place c.loop-number.invariant.among
-                (contains_at eligible one.place place at);
+            among = All-push (λ place. Contains fit place) so_far place c.loop-number.invariant.among
+                (contains_at fit one.place place at);
             all = below_more (λ i. (group : Group) → slice_get groups i ≡ Some group → Weighs group first → (p : ℕ)
-                → slice_get eligible group.place ≡ Some p → Contains (so_far ++ place ∷ []) p) n
+                → slice_get fit group.place ≡ Some p → Contains (so_far ++ place ∷ []) p) n
                 (λ i below group at_group weighs p at_p. Contains-append_left so_far (place ∷ []) p
                 (c.loop-number.invariant.all i below group at_group weighs p at_p))
                 (λ group at_group weighs p at_p.
                 let same : one ≡ group = cc (c.group-group.ensures, at_group) in
-                let at_one : slice_get eligible one.place ≡ Some p = ap (λ (group : Group). slice_get eligible group.place) same ∙ at_p in
+                let at_one : slice_get fit one.place ≡ Some p = ap (λ (group : Group). slice_get fit group.place) same ∙ at_p in
                 contains_last so_far place p (cc (at, at_one)));
           })
       | else-group+else-is_first w ↦
@@ -44,7 +44,7 @@ loop-number-preserved c =
             few = omega (arith, c.loop-number.invariant.few);
             among = c.loop-number.invariant.among;
             all = below_more (λ i. (group : Group) → slice_get groups i ≡ Some group → Weighs group first → (p : ℕ)
-                → slice_get eligible group.place ≡ Some p → Contains so_far p) n
+                → slice_get fit group.place ≡ Some p → Contains so_far p) n
                 (λ i below group at_group weighs p at_p. c.loop-number.invariant.all i below group at_group weighs p at_p)
                 (λ group at_group weighs p at_p.
                 let same : one ≡ group = cc (c.group-group.ensures, at_group) in

@@ -9,7 +9,7 @@ use Rattle.rs_choice.proofs.clients.weighing.Given as goal
 abbrev pub invariant-loop-number : goal.invariant-loop-number
 invariant-loop-number l = record {
   few : length l.weighing ≤ l.number;
-  among : All (λ place. Contains l.eligible place) l.weighing;
+  among : All (λ place. Contains l.fit place) l.weighing;
   all : (i : ℕ) → i < l.number → (group : Group) → slice_get l.groups i ≡ Some group → Weighs group l.first → (place : ℕ)
-      → slice_get l.eligible group.place ≡ Some place → Contains l.weighing place;
+      → slice_get l.fit group.place ≡ Some place → Contains l.weighing place;
 }

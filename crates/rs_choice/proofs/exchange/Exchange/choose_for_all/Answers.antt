@@ -1,11 +1,11 @@
 use Rattle.std.proofs.Common.{rules}
-use Rattle.rs_choice.proofs.clients.ClientLemmas.{eligible_hold}
+use Rattle.rs_choice.proofs.clients.ClientLemmas.{fit_hold}
 use Rattle.rs_choice.proofs.exchange.Exchange.choose_for_all.Goals as goal
 
 pub choose_for-requires-clause-candidates : goal.choose_for-requires-clause-candidates
 choose_for-requires-clause-candidates c =
-    eligible_hold c.args.self.now c.args.held.now c.eligible-eligible.result c.requires.judged c.eligible-eligible.ensures.places
-    c.eligible-eligible.ensures.eligible c.loop-client.client
+    fit_hold c.args.self.now c.args.held.now c.fit-fit.result c.requires.judged c.fit-fit.ensures.places
+    c.fit-fit.ensures.fit c.loop-client.client
 
 pub loop-client-preserved : goal.loop-client-preserved
 loop-client-preserved c = search rules

@@ -1,17 +1,21 @@
 use Rattle.std.proofs.Common.{◌≡◌, ◌∙◌, ◌<◌, sym, ap, subst, refl, arith, inl, length, take, ◌++◌, ◌+◌, ◌∷◌, [], Some, None}
 use Rattle.std.specs.Prelude.{slice_get, IsTrue}
 use Rattle.std.proofs.Math.Seq.{take-length}
+use Rattle.std.proofs.lemmas.Bool.{and_parts}
 use Rattle.std.proofs.lemmas.List.{append-nil, length_push}
 use Rattle.std.proofs.lemmas.List.Elements.{All-push}
 use Rattle.std.proofs.lemmas.Option.{slice_get_read}
 use Rattle.rs_choice.specs.Clients.{candidates_among}
 use Rattle.rs_choice.specs.Contenders.{Contends}
-use Rattle.rs_choice.specs.Decision.{SentRoute, choice, standing_of}
+use Rattle.rs_choice.specs.declared.held_route.HeldRoute.{HeldRoute}
+use Rattle.rs_choice.specs.Candidacy.{is_candidate, is_taken_in}
+use Rattle.rs_choice.specs.Decision.{choice, standing_of}
 use Rattle.rs_choice.specs.Eligibility.{is_eligible}
+use Rattle.rs_choice.specs.Entrants.{chosen_of}
 use Rattle.rs_choice.specs.Held.{sent_of_held, IsJudged}
 use Rattle.rs_choice.specs.Sharing.{sents_at}
-use Rattle.rs_choice.proofs.clients.ChosenLemmas.{sents_more, sents_push, within_at}
-use Rattle.rs_choice.proofs.clients.ContenderLemmas.{eligible_at, with_one, without_one}
+use Rattle.rs_choice.proofs.clients.ChosenLemmas.{chosen_push, sents_more, sents_push, within_at}
+use Rattle.rs_choice.proofs.clients.ContenderLemmas.{fit_at, with_one, without_one}
 use Rattle.rs_choice.proofs.Members.{mem-append_right}
 use Rattle.rs_choice.proofs.exchange.Exchange.contenders.Goals as goal
 use Rattle.rs_choice.proofs.exchange.Exchange.contenders.Goals.{in-Some, in_default}
@@ -29,9 +33,8 @@ contends-requires-clause-judged c =
     subst (IsJudged c.args.self.now) (sym c.index-held-place.is)
     (c.requires.judged c.place-place.result c.index-held-place.result within)
 
-pub contends-requires-clause-eligible : goal.contends-requires-clause-eligible
-contends-requires-clause-eligible c =
-    let plan = c.args.self.now in
+pub contends-requires-clause-fit : goal.contends-requires-clause-fit
+contends-requires-clause-fit c =
     let held = c.args.held.now in
     let places = c.args.places.now in
     let one = c.index-held-place.result in
@@ -39,9 +42,7 @@ contends-requires-clause-eligible c =
     let within : place < length held =
     within_at held places c.requires.candidates.within c.loop-number.number place c.place-place.ensures.value in
     let at : slice_get held place ≡ Some one = slice_get_read held (length held) place one (omega arith) within c.index-held-place.is in
-    let judged = subst (IsJudged plan) (sym c.index-held-place.is) (c.requires.judged place one within) in
-    judged.eligible ∙ eligible_at plan c.args.client held places c.requires.candidates c.loop-number.number place one
-    c.place-place.ensures.value at
+    fit_at c.args.self.now c.args.client held places c.requires.candidates c.loop-number.number place one c.place-place.ensures.value at
 
 pub loop-number-preserved : goal.loop-number-preserved
 loop-number-preserved c =
@@ -58,7 +59,10 @@ loop-number-preserved c =
     let at : slice_get held place ≡ Some one = slice_get_read held (length held) place one (omega arith) within c.index-held-place.is in
     let more : sents_at held (take (i + 1) places) ≡ routes ++ sent_of_held one ∷ [] =
     sents_more held places i place one c.place-place.ensures.value at in
-    let eligible = eligible_at plan c.args.client held places c.requires.candidates i place one c.place-place.ensures.value at in
+    let fit = fit_at plan c.args.client held places c.requires.candidates i place one c.place-place.ensures.value at in
+    let judged = subst (IsJudged plan) (sym c.index-held-place.is) (c.requires.judged place one within) in
+    let eligible =
+    (and_parts (is_taken_in one.candidacy) (is_eligible plan one.peer one.attributes.value) (sym judged.candidate ∙ fit)).1 in
     elim c.match-contends.branch [
       | in-Some w ↦
           let contends : Contends plan client (sent_of_held one) c.loop-number.last (Some w.in-Some.standing) =
@@ -67,9 +71,9 @@ loop-number-preserved c =
           rw (w.contenders-is, w.last-is, w.push.ensures) (record {
             few = omega (arith, length_push so_far place, c.loop-number.invariant.few);
             places = All-push (λ place. place < length held) so_far place c.loop-number.invariant.places within;
-            eligible =
-                rw pushed (All-push (λ (sent : SentRoute). IsTrue (is_eligible plan sent.peer sent.attributes)) (sents_at held so_far)
-                (sent_of_held one) c.loop-number.invariant.eligible eligible);
+            fit =
+                rw (chosen_push held so_far place one at) (All-push (λ (one : HeldRoute). IsTrue (is_candidate one.candidacy))
+                (chosen_of held so_far) one c.loop-number.invariant.fit fit);
             has_last =
                 rw pushed (
                   sent_of_held one,
@@ -85,7 +89,7 @@ loop-number-preserved c =
           rw (w.contenders-is, w.last-is) (record {
             few = omega (arith, c.loop-number.invariant.few);
             places = c.loop-number.invariant.places;
-            eligible = c.loop-number.invariant.eligible;
+            fit = c.loop-number.invariant.fit;
             has_last = c.loop-number.invariant.has_last;
             same = rw more (without_one plan client routes (sent_of_held one) (sents_at held so_far)
                 c.loop-number.invariant.same c.loop-number.last c.loop-number.invariant.has_last contends_not);
@@ -102,7 +106,7 @@ returns c =
     omega (arith, c.loop-number.auto.number-end, c.loop-number-test.false, c.len-number-end.ensures.value) in
     record {
       within = c.loop-number.invariant.places;
-      eligible = c.loop-number.invariant.eligible;
+      fit = c.loop-number.invariant.fit;
       same = sym (ap (choice (standing_of plan)) (append-nil chosen))
           ∙ c.loop-number.invariant.same []
           ∙ ap (choice (standing_of plan)) (append-nil (candidates_among plan c.args.client

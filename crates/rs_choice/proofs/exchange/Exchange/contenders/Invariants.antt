@@ -1,6 +1,7 @@
 use Rattle.std.proofs.Common.{◌≤◌, length, take}
 use Rattle.rs_choice.specs.Clients.{candidates_among}
-use Rattle.rs_choice.specs.Held.{AreEligible}
+use Rattle.rs_choice.specs.Entrants.{chosen_of}
+use Rattle.rs_choice.specs.Held.{AreCandidates}
 use Rattle.rs_choice.specs.Sharing.{sents_at, ArePlaces}
 use Rattle.rs_choice.proofs.clients.ContenderLemmas.{ChooseSame, HasLast}
 use Rattle.rs_choice.proofs.exchange.Exchange.contenders.Given as goal
@@ -10,7 +11,7 @@ abbrev pub invariant-loop-number : goal.invariant-loop-number
 invariant-loop-number l = record {
   few : length l.contenders ≤ l.number;
   places : ArePlaces l.held l.contenders;
-  eligible : AreEligible l.self (sents_at l.held l.contenders);
+  fit : AreCandidates (chosen_of l.held l.contenders);
   has_last : HasLast l.self (sents_at l.held l.contenders) l.last;
   same : ChooseSame l.self (sents_at l.held l.contenders)
       (candidates_among l.self l.client (sents_at l.held (take l.number l.places)));

@@ -5,7 +5,7 @@ use Rattle.rs_choice.proofs.exchange.Exchange.hold.Goals as goal
 pub returns-clause-judged : goal.returns-clause-judged
 returns-clause-judged c = record {
   known = c.requires;
-  eligible = rw c.deref.ensures at c.candidacy-candidacy.ensures.eligible;
+  candidate = rw c.deref.ensures at c.candidacy-candidacy.ensures.candidate;
   unrestricted = rw c.deref.ensures at c.candidacy-candidacy.ensures.unrestricted;
   plain = rw c.deref.ensures at c.candidacy-candidacy.ensures.plain;
   standing = λ candidate.

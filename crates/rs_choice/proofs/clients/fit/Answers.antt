@@ -7,33 +7,33 @@ use Rattle.rs_choice.specs.declared.held_route.HeldRoute.{HeldRoute}
 use Rattle.rs_choice.specs.Candidacy.{is_candidate}
 use Rattle.rs_choice.proofs.clients.ChosenLemmas.{chosen_push, take_one_more}
 use Rattle.rs_choice.proofs.decision.BehindLemmas.{filter_with, filter_without}
-use Rattle.rs_choice.proofs.clients.eligible.Goals as goal
-use Rattle.rs_choice.proofs.clients.eligible.Goals.{then-is_eligible, else-is_eligible}
+use Rattle.rs_choice.proofs.clients.fit.Goals as goal
+use Rattle.rs_choice.proofs.clients.fit.Goals.{then-is_candidate, else-is_candidate}
 
 pub loop-place-preserved : goal.loop-place-preserved
 loop-place-preserved c =
     let held = c.args.held.now in
     let one = c.index-held-place.result in
     let i = c.loop-place.place in
-    let so_far = c.loop-place.eligible in
+    let so_far = c.loop-place.fit in
     let at : slice_get held i ≡ Some one = slice_get_read held (length held) i one (omega arith) (omega arith) c.index-held-place.is in
     let fit = λ (one : HeldRoute). is_candidate one.candidacy in
     let more = ap (filter fit) (take_one_more held i one at) in
-    elim c.if-is_eligible.branch [
-      | then-is_eligible w ↦
-          let passes = ap fit c.index-held-place.is ∙ sym c.is_eligible.ensures ∙ w.if-is_eligible.true in
-          rw (w.eligible-is, w.push.ensures) (record {
+    elim c.if-is_candidate.branch [
+      | then-is_candidate w ↦
+          let passes = ap fit c.index-held-place.is ∙ sym c.is_candidate.ensures ∙ w.if-is_candidate.true in
+          rw (w.fit-is, w.push.ensures) (record {
             few = omega (arith, length_push so_far i, c.loop-place.invariant.few);
             places = All-push (λ place. place < length held) so_far i c.loop-place.invariant.places (omega arith);
-            eligible = chosen_push held so_far i one at ∙ ap (λ list. list ++ one ∷ []) c.loop-place.invariant.eligible
+            fit = chosen_push held so_far i one at ∙ ap (λ list. list ++ one ∷ []) c.loop-place.invariant.fit
                 ∙ sym (more ∙ filter_with fit (take i held) [] one passes);
           })
-      | else-is_eligible w ↦
-          let fails = ap fit c.index-held-place.is ∙ sym c.is_eligible.ensures ∙ w.if-is_eligible.false in
-          rw w.eligible-is (record {
+      | else-is_candidate w ↦
+          let fails = ap fit c.index-held-place.is ∙ sym c.is_candidate.ensures ∙ w.if-is_candidate.false in
+          rw w.fit-is (record {
             few = omega (arith, c.loop-place.invariant.few);
             places = c.loop-place.invariant.places;
-            eligible = c.loop-place.invariant.eligible
+            fit = c.loop-place.invariant.fit
                 ∙ sym (more ∙ filter_without fit (take i held) [] one fails
                 ∙ ap (filter fit) (append-nil (take i held)));
           })
