@@ -13,7 +13,7 @@ use Rattle.rs_types.specs.PrefixOrder.{prefix_cmp, same_prefix}
 use Rattle.rs_choice.specs.Plan.{Plan}
 use Rattle.rs_choice.specs.declared.held_route.HeldRoute.{HeldRoute}
 use Rattle.rs_table.specs.ByPeer.{IsRow, route_at}
-use Rattle.rs_table.specs.Cell.{CellContent, IsCell}
+use Rattle.rs_table.specs.Cell.{CellContent, IsCell, IsCellOn}
 use Rattle.rs_choice.specs.Held.{sent_of_held}
 use Rattle.rs_table.specs.Cells.{Entries, AreCells, AreJoined, cell_at, routes_at, routes_of, routes_from}
 use Rattle.rs_table.specs.Content.{RibContent, TablesContent, nothing_held, rib_of}
@@ -100,9 +100,9 @@ module _ (plan : Plan) (entries : Entries) (closed : List Bool) (peers : length 
             by_held cell e cell.held refl is.some
 
 -- what holds of the cells that are found holds of all
-module _ (P : CellContent → Type 0) where
+module _ (P : IpPrefix → CellContent → Type 0) where
   each-found : (entries : Entries) → IsStrictlySortedBy prefix_cmp (map (λ entry. entry.0) entries)
-      → ((q : IpPrefix) (cell : CellContent) → cell_at entries q ≡ Some cell → P cell) → Each P entries
+      → ((q : IpPrefix) (cell : CellContent) → cell_at entries q ≡ Some cell → P q cell) → Each P entries
   unfolding IsStrictlySortedBy
   each-found [] sorted given = tt
   each-found (e ∷ es) sorted given =
@@ -126,7 +126,7 @@ module _ (P : CellContent → Type 0) where
       each-found joined sorted (λ q cell found. by_other q cell (cell_at other q) refl (sym (is q) ∙ found))
     where
       by_other : (q : IpPrefix) (cell : CellContent) (o : Option CellContent) → cell_at other q ≡ o
-          → option_or o (cell_at one q) ≡ Some cell → P cell
+          → option_or o (cell_at one q) ≡ Some cell → P q cell
       by_other q cell None e found = each-at P one q cell all found
       by_other q cell (Some c) e found = each-at P other q cell others (e ∙ found)
 
@@ -161,7 +161,7 @@ pub joined-IsJoined : (plan : Plan) (one other joined : Entries) (closed later :
     AreCells plan one → AreCells plan other → AreJoined one other joined → IsStrictlySortedBy prefix_cmp (map (λ entry. entry.0) joined) →
     IsJoined (tables plan one closed) (tables plan other later) (tables plan joined closed)
 joined-IsJoined plan one other joined closed later peers others cells other_cells is sorted =
-    let joined_cells : AreCells plan joined = each-joined (IsCell plan) one other joined cells other_cells is sorted in
+    let joined_cells : AreCells plan joined = each-joined (IsCellOn plan) one other joined cells other_cells is sorted in
     record {
       plan = refl;
       closed = λ peer. rib-closed plan joined closed peer ∙ sym (rib-closed plan one closed peer);

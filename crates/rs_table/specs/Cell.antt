@@ -8,8 +8,9 @@ use Rattle.rs_choice.specs.contracts.held_route.HeldRoute as held_route
 use Rattle.rs_choice.specs.declared.held_route.HeldRoute.{HeldRoute}
 use Rattle.rs_choice.specs.Clients.{chosen_for}
 use Rattle.rs_choice.specs.Decision.{SentRoute}
-use Rattle.rs_choice.specs.Held.{sent_of_held, IsJudged}
+use Rattle.rs_choice.specs.Held.{sent_of_held, taken_in, AreTakenBy, IsJudged}
 use Rattle.rs_choice.specs.Plan.{Plan}
+use Rattle.rs_types.specs.IpPrefix.{IpPrefix}
 use Rattle.rs_table.specs.ByPeer.{route_at, IsRow}
 use Rattle.rs_table.specs.Table.{sent_by}
 
@@ -43,11 +44,11 @@ got_at routes client place = option_and_then (unless_own client) (slice_get rout
 abbrev pub stored_best : CellContent → ℕ → Option SentRoute
 stored_best cell client = option_and_then (got_at (routes_in cell) client) (slice_get cell.bests client)
 
--- for every client of a plan, the route at its place is the one that the client gets
-abbrev pub AreBestPlaces : Plan → List SentRoute → List ℕ → Type 0
-AreBestPlaces plan routes places =
+-- for every client of a plan, the route at its place is the one that the client gets of those that are taken in
+abbrev pub AreBestPlaces : Plan → List HeldRoute → List ℕ → Type 0
+AreBestPlaces plan held places =
     (client : ℕ) → client < length plan.peers
-    → got_at routes client (slice_index_or places client 0) ≡ chosen_for plan client routes
+    → got_at (map sent_of_held held) client (slice_index_or places client 0) ≡ chosen_for plan client (taken_in held)
 
 -- a peer's route is at the place; if the peer has no route, there is no route at the place
 abbrev pub IsPlaceOf : List SentRoute → ℕ → ℕ → Type 0
@@ -79,9 +80,19 @@ pub record IsCell (plan : Plan) (cell : CellContent) : Type 0 where
   pub held : AreHeld plan cell.held
   pub some : 0 < length cell.held
   pub count : length cell.bests ≡ length plan.peers
-  pub best : AreBestPlaces plan (map sent_of_held cell.held) cell.bests
+  pub best : AreBestPlaces plan cell.held cell.bests
 
 -- a cell of a prefix; if cells keep room, it has room for a route of every peer
 pub record IsKeptCell (keeps_room : Bool) (plan : Plan) (cell : CellContent) : Type 0 where
   pub is_cell : IsCell plan cell
   pub room : keeps_room ≡ true → length plan.peers ≤ cell.room
+
+-- A cell on a prefix: what it stores of each route says whether import policy takes the route in there. Below, it keeps
+-- room too.
+pub record IsCellOn (plan : Plan) (prefix : IpPrefix) (cell : CellContent) : Type 0 where
+  pub is_cell : IsCell plan cell
+  pub taken : AreTakenBy plan prefix cell.held
+
+pub record IsKeptCellOn (keeps_room : Bool) (plan : Plan) (prefix : IpPrefix) (cell : CellContent) : Type 0 where
+  pub is_kept : IsKeptCell keeps_room plan cell
+  pub taken : AreTakenBy plan prefix cell.held

@@ -12,7 +12,7 @@ use Rattle.rs_choice.specs.Plan.{Plan}
 use Rattle.rs_table.specs.Left.{reason_drops, Routes}
 use Rattle.rs_choice.specs.Decision.{SentRoute}
 use Rattle.rs_table.specs.ByPeer.{route_at, with_route, without_route}
-use Rattle.rs_table.specs.Cell.{CellContent, IsCell, IsKeptCell, routes_in}
+use Rattle.rs_table.specs.Cell.{CellContent, IsCellOn, IsKeptCellOn, routes_in}
 
 abbrev pub Entries : Type 0
 Entries = List (IpPrefix × CellContent)
@@ -36,14 +36,14 @@ routes_from entries peer =
     (λ prefix. option_map (λ route. (prefix, route)) (route_at (routes_at entries prefix) peer))
     (map (λ entry. entry.0) entries))
 
--- each entry is a cell of the plan
+-- each entry is a cell of the plan on its prefix
 abbrev pub AreCells : Plan → Entries → Type 0
-AreCells plan entries = AllByRecursion (λ (entry : IpPrefix × CellContent). IsCell plan entry.1) entries
+AreCells plan entries = AllByRecursion (λ (entry : IpPrefix × CellContent). IsCellOn plan entry.0 entry.1) entries
 
--- each entry is a cell of the plan; if cells keep room, it has room for a route of every peer
+-- each entry is a cell of the plan on its prefix; if cells keep room, it has room for a route of every peer
 abbrev pub AreKeptCells : Bool → Plan → Entries → Type 0
 AreKeptCells keeps_room plan entries =
-    AllByRecursion (λ (entry : IpPrefix × CellContent). IsKeptCell keeps_room plan entry.1) entries
+    AllByRecursion (λ (entry : IpPrefix × CellContent). IsKeptCellOn keeps_room plan entry.0 entry.1) entries
 
 -- the routes on a prefix after a change of a peer
 abbrev pub changed_routes_body : ℕ → ℕ → ChangeBody → IpPrefix → List SentRoute → List SentRoute

@@ -7,6 +7,7 @@ use Rattle.rs_types.specs.IpPrefix.{IpPrefix}
 use Rattle.rs_types.specs.PathAttributes.{PathAttributes, AsSequence, CommunityList}
 use Rattle.rs_change.specs.declared.word.Reason.TheVariants.{EndOfFile, Bgp}
 use Rattle.rs_change.specs.Change.{Change, Announced, Withdrawn, Lost, Closed}
+use Rattle.rs_choice.specs.Import.{no_import}
 use Rattle.rs_choice.specs.Plan.{Peer, Plan}
 use Rattle.rs_table.specs.declared.why.Why.TheVariants.{Own, Absent, Ineligible, Refused, Best, Lost}
 use Rattle.rs_table.specs.Content.{RibContent, TablesContent}
@@ -89,6 +90,7 @@ four_peers = record {
   peers =
       peer_at 64501 3221225995 ∷ peer_at 64502 3221225996 ∷ peer_at 64503 3221225997 ∷ peer_at 64504 3221225998 ∷ [];
   large_communities = false;
+  import = no_import;
 }
 
 -- attributes with this path, NEXT_HOP 192.0.2.11 and these communities

@@ -4,7 +4,7 @@ use Rattle.std.specs.declared.cmp.Ordering.TheVariants.{Less}
 use Rattle.rs_types.specs.IpPrefix.{IpPrefix}
 use Rattle.rs_types.specs.PrefixOrder.{prefix_cmp, same_prefix}
 use Rattle.rs_choice.specs.Decision.{SentRoute}
-use Rattle.rs_choice.specs.Held.{sent_of_held}
+use Rattle.rs_choice.specs.Held.{sent_of_held, AreTakenBy}
 use Rattle.rs_choice.specs.Plan.{Plan}
 use Rattle.rs_table.specs.declared.settling.Making.{Making}
 use Rattle.rs_table.specs.ByPeer.{IsRow}
@@ -25,6 +25,7 @@ routes_so_far making prefix =
 -- the prefixes before the current one have cells, and no other prefixes have
 pub record IsMaking (keeps_room : Bool) (plan : Plan) (making : Making) : Type 0 where
   pub held : AreHeld plan making.held.items
+  pub taken : AreTakenBy plan making.prefix making.held.items
   pub cells : AreKeptCells keeps_room plan making.cells.entries
   pub none : (prefix : IpPrefix) → prefix_cmp prefix making.prefix ≢ Less → routes_at making.cells.entries prefix ≡ []
 

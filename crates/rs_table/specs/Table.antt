@@ -9,12 +9,13 @@ use Rattle.std.specs.Option.{option_map, option_map_or}
 use Rattle.std.specs.FinMap.{get, find, entries, keys, from_entries}
 use Rattle.rs_types.specs.IpPrefix.{IpPrefix}
 use Rattle.rs_types.specs.PrefixOrder.{prefix_cmp}
+use Rattle.rs_choice.specs.Acceptance.{accepted_among, accepts}
 use Rattle.rs_choice.specs.Clients.{candidates_among, chosen_for}
 use Rattle.rs_choice.specs.Decision.{SentRoute}
 use Rattle.rs_choice.specs.Eligibility.{is_eligible}
 use Rattle.rs_choice.specs.Policy.{is_permitted}
 use Rattle.rs_table.specs.declared.why.Why.{Why}
-use Rattle.rs_table.specs.declared.why.Why.TheVariants.{Own, Absent, Ineligible, Refused, Best, Lost}
+use Rattle.rs_table.specs.declared.why.Why.TheVariants.{Own, Absent, Ineligible, Filtered, Refused, Best, Lost}
 use Rattle.rs_table.specs.Left.{RouteLeft}
 use Rattle.rs_table.specs.Content.{RibContent, TablesContent, rib_of}
 
@@ -31,13 +32,17 @@ abbrev pub routes_on : IpPrefix → List RibContent → List SentRoute
 routes_on prefix ribs =
     filter_map (λ (peer, rib). option_map (sent_by peer) (get rib.routes prefix)) (enumerate_from 0 ribs)
 
+-- the routes that peers have left on a prefix and that import policy takes in
+abbrev pub accepted_on : TablesContent → IpPrefix → List SentRoute
+accepted_on tables prefix = accepted_among tables.plan prefix (routes_on prefix tables.ribs)
+
 -- the candidates of a client for a prefix, and below, its best path: the choice among the candidates
 abbrev pub candidates_of : TablesContent → ℕ → IpPrefix → List SentRoute
-candidates_of tables client prefix = candidates_among tables.plan client (routes_on prefix tables.ribs)
+candidates_of tables client prefix = candidates_among tables.plan client (accepted_on tables prefix)
 
 -- the best path of a client for a prefix: the choice among its candidates
 abbrev pub best_of : TablesContent → ℕ → IpPrefix → Option SentRoute
-best_of tables client prefix = chosen_for tables.plan client (routes_on prefix tables.ribs)
+best_of tables client prefix = chosen_for tables.plan client (accepted_on tables prefix)
 
 -- a row of a client's table: a prefix and a route
 pub record TableRow : Type 0 where
@@ -75,6 +80,7 @@ abbrev pub why_left : TablesContent → ℕ → ℕ → IpPrefix → Option Rout
 why_left tables client peer prefix None = Absent
 why_left tables client peer prefix (Some route) =
     if not (is_eligible tables.plan peer route.attributes) then Ineligible
+    else if not (accepts tables.plan peer prefix route.attributes) then Filtered
     else if not (is_permitted tables.plan client peer route.attributes) then Refused
     else if is_from peer (best_of tables client prefix) then Best
     else Lost

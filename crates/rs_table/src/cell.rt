@@ -56,6 +56,7 @@ impl Cell {
     pub(crate) fn new(alloc: Global, plan: &Exchange, route: HeldRoute) -> Result<Cell, AllocError>
         requires { IsJudged plan.now route }
         ensures routes { IfOk result (λ cell. routes_in cell ≡ sent_of_held route ∷ []) }
+        ensures held { IfOk result (λ cell. cell.held ≡ route ∷ []) }
         ensures cell { IfOk result (λ cell. IsKeptCell true plan.now cell) }
     {
         let mut held = Vec::with_capacity(alloc, plan.count())?;
@@ -74,6 +75,7 @@ impl Cell {
         requires held { AreHeld plan.now routes.old.items }
         requires some { 0 < length routes.old.items }
         ensures routes { IfOk result (λ cell. routes_in cell ≡ map sent_of_held routes.old.items) }
+        ensures held { IfOk result (λ cell. cell.held ≡ routes.old.items) }
         ensures cell { IfOk result (λ cell. IsKeptCell keeps_room plan.now cell) }
         ensures moved { OnOk result (routes.new.items ≡ []) }
     {
@@ -92,6 +94,7 @@ impl Cell {
         requires held { AreHeld plan.now held.items }
         requires some { 0 < length held.items }
         ensures routes { IfOk result (λ cell. routes_in cell ≡ map sent_of_held held.items) }
+        ensures held { IfOk result (λ cell. cell.held ≡ held.items) }
         ensures cell { IfOk result (λ cell. IsCell plan.now cell) }
         ensures room { IfOk result (λ cell. cell.room ≡ vec_capacity held) }
     {
@@ -106,6 +109,7 @@ impl Cell {
         requires judged { IsJudged plan.now route }
         requires cell { IsUndecided plan.now self.old }
         ensures routes { routes_in self.new ≡ with_route (routes_in self.old) (sent_of_held route) }
+        ensures held { self.new.held ≡ with_one (λ one. one.peer) self.old.held route }
         ensures cell { IsUndecided plan.now self.new }
     {
         put(&mut self.held, route);
@@ -115,6 +119,7 @@ impl Cell {
     pub(crate) fn settle(&mut self, plan: &Exchange) -> bool
         requires { IsUndecided plan.now self.old }
         ensures routes { routes_in self.new ≡ routes_in self.old }
+        ensures held { self.new.held ≡ self.old.held }
         ensures some { IsTrue result → IsKeptCell true plan.now self.new }
         ensures none { IsFalse result → routes_in self.new ≡ [] }
     {
@@ -130,6 +135,7 @@ impl Cell {
         requires judged { IsJudged plan.now route }
         requires cell { IsKeptCell true plan.now self.old }
         ensures routes { routes_in self.new ≡ with_route (routes_in self.old) (sent_of_held route) }
+        ensures held { self.new.held ≡ with_one (λ one. one.peer) self.old.held route }
         ensures cell { IsKeptCell true plan.now self.new }
     {
         self.put(plan, route);
@@ -141,6 +147,7 @@ impl Cell {
     pub(crate) fn withdraw(&mut self, plan: &Exchange, peer: usize) -> bool
         requires { IsKeptCell true plan.now self.old }
         ensures routes { routes_in self.new ≡ without_route (routes_in self.old) peer }
+        ensures held { self.new.held ≡ without_one (λ one. one.peer) self.old.held peer }
         ensures some { IsTrue result → IsKeptCell true plan.now self.new }
         ensures none { IsFalse result → routes_in self.new ≡ [] }
     {

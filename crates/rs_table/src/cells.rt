@@ -5,7 +5,7 @@ ghost use Rattle.std.specs.BTreeMap.{IsOrdered};
 ghost use Rattle.rs_change.specs.Change.{change_of};
 ghost use Rattle.rs_types.specs.IpPrefix.{IpPrefix};
 ghost use Rattle.rs_types.specs.PrefixOrder.{prefix_cmp, same_prefix};
-ghost use Rattle.rs_choice.specs.Held.{sent_of_held, IsJudged};
+ghost use Rattle.rs_choice.specs.Held.{sent_of_held, IsJudged, IsTakenBy};
 ghost use Rattle.rs_table.specs.ByPeer.{with_route, without_route};
 ghost use Rattle.rs_table.specs.Cells.{cell_at, routes_at, AreJoined, AreKeptCells, ChangeTo, IsFirstOn};
 
@@ -34,7 +34,7 @@ pub(crate) fn change(
     let Word { time, body } = word;
     match body {
         Body::Announce(prefix, attributes) => {
-            let route = plan.hold(peer, time, attributes);
+            let route = plan.hold(peer, prefix, time, attributes);
             announce(alloc, cells, plan, prefix, route)
         }
         Body::Withdraw(prefix) => {
@@ -63,6 +63,7 @@ fn announce(
     route: HeldRoute,
 ) -> Result<(), AllocError>
     requires judged { IsJudged plan.now route }
+    requires taken { IsTakenBy plan.now prefix route }
     requires cells { AreKeptCells true plan.now cells.old.entries }
     ensures routes { OnOk result ((q : IpPrefix)
         → routes_at cells.new.entries q

@@ -111,7 +111,7 @@ impl Making {
         let Some(attributes) = attributes else {
             unreachable!();
         };
-        let route = plan.hold(usize::from(peer), time, attributes);
+        let route = plan.hold(usize::from(peer), self.prefix, time, attributes);
         self.held.push(route)?;
         Ok(())
     }

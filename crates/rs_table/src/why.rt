@@ -15,6 +15,8 @@ pub enum Why {
     Absent,
     /// The peer's route isn't eligible (RFC 4271, sections 6.3 and 9.1.2).
     Ineligible,
+    /// Import policy doesn't take the peer's route in (RFC 4271, section 9.1.1).
+    Filtered,
     /// Export policy refuses the peer's route to the client (RFC 7947, section 2.3).
     Refused,
     /// The client's table has the peer's route.
@@ -39,6 +41,9 @@ impl Tables {
         };
         if !self.plan().eligible(peer, held.attributes) {
             return Why::Ineligible;
+        }
+        if !self.plan().accepts(peer, prefix, held.attributes) {
+            return Why::Filtered;
         }
         if !self.plan().permits(client, peer, held.attributes) {
             return Why::Refused;

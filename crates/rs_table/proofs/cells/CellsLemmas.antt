@@ -9,6 +9,7 @@ use Rattle.std.specs.Cmp.{eq_by_cmp_equiv}
 use Rattle.std.specs.FinMap as fin
 use Rattle.std.specs.Option.{option_map}
 use Rattle.std.specs.Ordering.{match_ordering}
+use Rattle.std.specs.declared.cmp.Ordering.{Ordering}
 use Rattle.std.specs.declared.cmp.Ordering.TheVariants.{Less, Equal, Greater}
 use Rattle.std.proofs.lemmas.Bool.{cases_Bool}
 use Rattle.std.proofs.lemmas.Bool.Decides.{eqb_tells}
@@ -22,7 +23,7 @@ use Rattle.rs_table.specs.Content.{nothing_held}
 use Rattle.rs_table.specs.Table.{sent_by, routes_on}
 use Rattle.rs_choice.specs.Decision.{SentRoute}
 use Rattle.rs_table.specs.ByPeer.{IsRow, route_at}
-use Rattle.rs_table.specs.Cell.{CellContent, IsCell, IsKeptCell}
+use Rattle.rs_table.specs.Cell.{CellContent, IsCell, IsCellOn, IsKeptCellOn}
 use Rattle.rs_table.specs.Cells.{Entries, AreCells, AreKeptCells, cell_at, routes_at, routes_of, routes_from}
 use Rattle.rs_table.specs.TablesView.{ribs_by, ribs_from}
 use Rattle.rs_table.proofs.PrefixLemmas.{prefix_total, same_prefix-true, find-entries}
@@ -41,42 +42,48 @@ remove-set test (e ∷ es) w =
     ]
 
 -- all cells of some entries have a property
-abbrev pub Each : (CellContent → Type 0) → Entries → Type 0
-Each P entries = AllByRecursion (λ (entry : IpPrefix × CellContent). P entry.1) entries
+abbrev pub Each : (IpPrefix → CellContent → Type 0) → Entries → Type 0
+Each P entries = AllByRecursion (λ (entry : IpPrefix × CellContent). P entry.0 entry.1) entries
 
-pub each-weaker : (P Q : CellContent → Type 0) → ((cell : CellContent) → P cell → Q cell) → (entries : Entries) → Each P entries
-    → Each Q entries
+pub each-weaker : (P Q : IpPrefix → CellContent → Type 0) → ((prefix : IpPrefix) (cell : CellContent) → P prefix cell → Q prefix cell)
+    → (entries : Entries) → Each P entries → Each Q entries
 each-weaker P Q weaker [] all = tt
-each-weaker P Q weaker (e ∷ es) all = (weaker e.1 all.0, each-weaker P Q weaker es all.1)
+each-weaker P Q weaker (e ∷ es) all = (weaker e.0 e.1 all.0, each-weaker P Q weaker es all.1)
 
-module _ (P : CellContent → Type 0) where
-  pub each-at : (entries : Entries) (prefix : IpPrefix) (cell : CellContent) → Each P entries → cell_at entries prefix ≡ Some cell → P cell
+module _ (P : IpPrefix → CellContent → Type 0) where
+  pub each-at : (entries : Entries) (prefix : IpPrefix) (cell : CellContent) → Each P entries → cell_at entries prefix ≡ Some cell
+      → P prefix cell
   each-at [] prefix cell all is = absurd (cc is)
   each-at (e ∷ es) prefix cell all is =
       elim (cases_Bool (is_at (prefix_cmp prefix) e.0)) [
-        | inl here ↦ let same : e.1 ≡ cell = cc (rw here at is) in subst P same all.0
+        | inl here ↦
+            let same : e.1 ≡ cell = cc (rw here at is) in
+            subst (λ q. P q cell) (sym (same_prefix-true prefix e.0 here)) (subst (P e.0) same all.0)
         | inr there ↦ each-at es prefix cell all.1 (rw there at is)
       ]
 
-  pub each-set : (test : IpPrefix → Bool) (entries : Entries) (cell : CellContent) → Each P entries → P cell
-      → Each P (set_value test entries cell)
-  each-set test [] cell all one = tt
-  each-set test (e ∷ es) cell all one =
-      elim (test e.0) as (λ b. Each P (cond b ((e.0, cell) ∷ es) (e ∷ set_value test es cell))) [
-        | true ↦ (one, all.1)
-        | false ↦ (all.0, each-set test es cell all.1 one)
+  pub each-set : (prefix : IpPrefix) (entries : Entries) (cell : CellContent) → Each P entries → P prefix cell
+      → Each P (set_value (is_at (prefix_cmp prefix)) entries cell)
+  each-set prefix [] cell all one = tt
+  each-set prefix (e ∷ es) cell all one =
+      elim (cases_Bool (is_at (prefix_cmp prefix) e.0)) [
+        | inl here ↦ rw here (subst (λ q. P q cell) (same_prefix-true prefix e.0 here) one, all.1)
+        | inr there ↦ rw there (all.0, each-set prefix es cell all.1 one)
       ]
 
-  pub each-insert : (entries : Entries) (prefix : IpPrefix) (cell : CellContent) → Each P entries → P cell
+  pub each-insert : (entries : Entries) (prefix : IpPrefix) (cell : CellContent) → Each P entries → P prefix cell
       → Each P (insert_entry prefix_cmp entries prefix cell)
   each-insert [] prefix cell all one = (one, tt)
   each-insert (e ∷ es) prefix cell all one =
-      elim (prefix_cmp prefix e.0) as (λ o. Each P (match_ordering o ((prefix, cell) ∷ e ∷ es) ((e.0, cell) ∷ es)
-      (e ∷ insert_entry prefix_cmp es prefix cell))) [
-        | Less ↦ (one, (all.0, all.1))
-        | Equal ↦ (one, all.1)
-        | Greater ↦ (all.0, each-insert es prefix cell all.1 one)
-      ]
+      by_order (each-insert es prefix cell all.1 one) (prefix_cmp prefix e.0) refl
+    where
+      by_order : Each P (insert_entry prefix_cmp es prefix cell) → (o : Ordering) → prefix_cmp prefix e.0 ≡ o → Each P (match_ordering o ((prefix, cell) ∷ e ∷ es) ((e.0, cell) ∷ es)
+          (e ∷ insert_entry prefix_cmp es prefix cell))
+      by_order later Less is = (one, (all.0, all.1))
+      by_order later Equal is =
+          let here : same_prefix prefix e.0 ≡ true = rw is refl in
+          (subst (λ q. P q cell) (same_prefix-true prefix e.0 here) one, all.1)
+      by_order later Greater is = (all.0, later)
 
   each-remove : (test : IpPrefix → Bool) (entries : Entries) → Each P entries → Each P (remove_entry test entries)
   each-remove test [] all = tt
@@ -93,11 +100,12 @@ module _ (P : CellContent → Type 0) where
 
 pub cell-IsCell : (plan : Plan) (entries : Entries) (prefix : IpPrefix) (cell : CellContent) → AreCells plan entries
     → cell_at entries prefix ≡ Some cell → IsCell plan cell
-cell-IsCell plan = each-at (IsCell plan)
+cell-IsCell plan entries prefix cell all found = (each-at (IsCellOn plan) entries prefix cell all found).is_cell
 
 -- cells that keep room are cells
 pub kept-cells : (keeps_room : Bool) (plan : Plan) (entries : Entries) → AreKeptCells keeps_room plan entries → AreCells plan entries
-kept-cells keeps_room plan = each-weaker (IsKeptCell keeps_room plan) (IsCell plan) (λ cell is. is.is_cell)
+kept-cells keeps_room plan = each-weaker (IsKeptCellOn keeps_room plan) (IsCellOn plan)
+    (λ prefix cell is. record { is_cell = is.is_kept.is_cell; taken = is.taken })
 
 -- ---- what one change of the map leaves
 

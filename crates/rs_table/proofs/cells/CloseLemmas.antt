@@ -25,17 +25,18 @@ abbrev pub Withdraws : (CellContent → Type 0) → ℕ → CellContent → Bool
 Withdraws P peer old left new =
     (routes_in new ≡ without_route (routes_in old) peer) × (left ≡ true → P new) × (left ≡ false → routes_in new ≡ [])
 
-pub member-each : (P : CellContent → Type 0) (before after : Entries) (prefix : IpPrefix) (cell : CellContent)
-    → Each P (before ++ (prefix, cell) ∷ after) → P cell
+pub member-each : (P : IpPrefix → CellContent → Type 0) (before after : Entries) (prefix : IpPrefix) (cell : CellContent)
+    → Each P (before ++ (prefix, cell) ∷ after) → P prefix cell
 member-each P [] after prefix cell all = all.0
 member-each P (e ∷ es) after prefix cell all = member-each P es after prefix cell all.1
 
-pub front-each : (P : CellContent → Type 0) (before after : Entries) → Each P (before ++ after) → Each P before
+pub front-each : (P : IpPrefix → CellContent → Type 0) (before after : Entries) → Each P (before ++ after) → Each P before
 front-each P [] after all = tt
 front-each P (e ∷ es) after all = (all.0, front-each P es after all.1)
 
-module _ {F : Type 0} (T : F → IpPrefix → CellContent → Bool → CellContent → F → Type 0) (P : CellContent → Type 0) (peer : ℕ) (f : F)
-    (calls : (k : IpPrefix) (v : CellContent) (b : Bool) (w : CellContent) (f' : F) → P v → T f k v b w f' → Withdraws P peer v b w
+module _ {F : Type 0} (T : F → IpPrefix → CellContent → Bool → CellContent → F → Type 0) (P : IpPrefix → CellContent → Type 0) (peer : ℕ)
+    (f : F)
+    (calls : (k : IpPrefix) (v : CellContent) (b : Bool) (w : CellContent) (f' : F) → P k v → T f k v b w f' → Withdraws (P k) peer v b w
     × (f' ≡ f)) where
   pub left-each : (es kept : Entries) → Each P es → RetainsPairs T f es kept → Each P kept
   left-each [] kept all kept_is = subst (Each P) (sym kept_is) tt
@@ -44,7 +45,7 @@ module _ {F : Type 0} (T : F → IpPrefix → CellContent → Bool → CellConte
       let others : Each P rest = left-each es rest all.1 (subst (λ g. RetainsPairs T g es rest) one.1 later) in
       subst (Each P) (sym kept_is) (by_left b one.0.1 others)
     where
-      by_left : (b : Bool) → (b ≡ true → P w) → Each P rest → Each P (cond b ((e.0, w) ∷ rest) rest)
+      by_left : (b : Bool) → (b ≡ true → P e.0 w) → Each P rest → Each P (cond b ((e.0, w) ∷ rest) rest)
       by_left true is others = (is refl, others)
       by_left false is others = others
 
@@ -65,7 +66,7 @@ module _ {F : Type 0} (T : F → IpPrefix → CellContent → Bool → CellConte
         | inr there ↦ rw there (past_one b others there)
       ]
     where
-      at_one : (b : Bool) → Withdraws P peer e.1 b w → routes_at rest q ≡ [] → same_prefix q e.0 ≡ true
+      at_one : (b : Bool) → Withdraws (P e.0) peer e.1 b w → routes_at rest q ≡ [] → same_prefix q e.0 ≡ true
           → routes_at (cond b ((e.0, w) ∷ rest) rest) q ≡ without_route (routes_in e.1) peer
       at_one true call none here = rw here call.0
       at_one false call none here = none ∙ sym (call.2 refl) ∙ call.0

@@ -10,6 +10,7 @@ use Rattle.rs_types.specs.IpPrefix.{IpPrefix}
 use Rattle.rs_choice.specs.Clients.{is_sent_to}
 use Rattle.rs_choice.specs.Decision.{standing_of, SentRoute}
 use Rattle.rs_choice.specs.Naturality.{choice-All}
+use Rattle.rs_choice.specs.Acceptance.{accepts}
 use Rattle.rs_choice.specs.Eligibility.{is_eligible}
 use Rattle.rs_table.specs.Left.{RouteLeft}
 use Rattle.rs_table.specs.Content.{RibContent, TablesContent}
@@ -56,9 +57,11 @@ pub best-known : (tables : TablesContent) (client : ℕ) (prefix : IpPrefix) (ro
 best-known tables client prefix route is =
     let IsKnown : SentRoute → Type 0 = λ route. route.peer < length tables.ribs in
     let eligible : SentRoute → Bool = λ route. is_eligible tables.plan route.peer route.attributes in
+    let accepted : SentRoute → Bool = λ route. accepts tables.plan route.peer prefix route.attributes in
     let permitted : SentRoute → Bool = is_sent_to tables.plan client in
     let known : AllByRecursion IsKnown (candidates_of tables client prefix) =
-    filter_keeps IsKnown permitted (filter eligible (routes_on prefix tables.ribs))
-    (filter_keeps IsKnown eligible (routes_on prefix tables.ribs) (of_ones prefix (length tables.ribs) 0 tables.ribs (omega arith))) in
+    filter_keeps IsKnown permitted (filter eligible (filter accepted (routes_on prefix tables.ribs)))
+    (filter_keeps IsKnown eligible (filter accepted (routes_on prefix tables.ribs))
+    (filter_keeps IsKnown accepted (routes_on prefix tables.ribs) (of_ones prefix (length tables.ribs) 0 tables.ribs (omega arith)))) in
     choice-All IsKnown (standing_of tables.plan) (candidates_of tables client prefix) route
     (all_places IsKnown (candidates_of tables client prefix) known) is

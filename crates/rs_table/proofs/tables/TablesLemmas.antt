@@ -20,7 +20,8 @@ use Rattle.rs_table.specs.Cells as cells
 use Rattle.rs_table.specs.Table.{sent_by, route_from, best_of}
 use Rattle.rs_choice.specs.Decision.{SentRoute}
 use Rattle.rs_table.specs.ByPeer.{IsRow, route_at}
-use Rattle.rs_table.specs.Cell.{CellContent, stored_best}
+use Rattle.rs_table.specs.Cell.{CellContent, IsCellOn, stored_best}
+use Rattle.rs_choice.specs.Acceptance.{accepted_among}
 use Rattle.rs_choice.specs.Clients.{chosen_for}
 use Rattle.rs_table.specs.Cells.{Entries, AreCells, cell_at, routes_at, routes_of, routes_from, changed_routes, changed_routes_body}
 use Rattle.rs_table.specs.Cells.{ChangeTo}
@@ -29,7 +30,8 @@ use Rattle.rs_table.proofs.PrefixLemmas.{prefix_total, prefix_cmp-IsAntisymmetri
 use Rattle.rs_table.proofs.LeftLemmas.{get-after}
 use Rattle.rs_table.proofs.ValueLemmas.{either_way}
 use Rattle.rs_table.proofs.cell.RowLemmas.{route_at-with, route_at-without}
-use Rattle.rs_table.proofs.cells.CellsLemmas.{get-routes_from, rib-at, rib-past, routes_on-cells, cell-IsCell}
+use Rattle.rs_table.proofs.cell.HeldLemmas.{taken-accepted}
+use Rattle.rs_table.proofs.cells.CellsLemmas.{each-at, get-routes_from, rib-at, rib-past, routes_on-cells, cell-IsCell}
 use Rattle.rs_table.proofs.tables.StoredLemmas.{stored}
 use Rattle.rs_table.proofs.listing.TableLemmas.{choice-nil}
 
@@ -67,19 +69,23 @@ module _ (plan : Plan) (entries : Entries) (closed : List Bool) where
           by_cell None e = tt
           by_cell (Some cell) e = (cell-IsCell plan entries prefix cell cells e).held.row
 
-      pub best-of : (client : ℕ) (prefix : IpPrefix) → best_of tables client prefix ≡ chosen_for plan client (routes_at entries prefix)
+      pub best-of : (client : ℕ) (prefix : IpPrefix)
+          → best_of tables client prefix ≡ chosen_for plan client (accepted_among plan prefix (routes_at entries prefix))
       best-of client prefix =
-          ap (chosen_for plan client) (routes_on-cells entries prefix closed
+          ap (λ routes. chosen_for plan client (accepted_among plan prefix routes)) (routes_on-cells entries prefix closed
           (subst (λ n. IsRow 0 n (routes_at entries prefix)) (sym peers) (row-at prefix)))
 
       pub best-none : (client : ℕ) (prefix : IpPrefix) → cell_at entries prefix ≡ None → best_of tables client prefix ≡ None
-      best-none client prefix none = best-of client prefix ∙ ap (λ cell. chosen_for plan client (routes_of cell)) none ∙ choice-nil plan
+      best-none client prefix none =
+          best-of client prefix ∙ ap (λ cell. chosen_for plan client (accepted_among plan prefix (routes_of cell))) none ∙ choice-nil plan
 
       pub best-some : (client : ℕ) (prefix : IpPrefix) (cell : CellContent) → cell_at entries prefix ≡ Some cell
           → stored_best cell client ≡ best_of tables client prefix
       best-some client prefix cell found =
-          stored plan cell client (cell-IsCell plan entries prefix cell cells found)
-          ∙ ap (λ cell. chosen_for plan client (routes_of cell)) (sym found) ∙ sym (best-of client prefix)
+          let is = each-at (IsCellOn plan) entries prefix cell cells found in
+          stored plan cell client is.is_cell
+          ∙ ap (chosen_for plan client) (taken-accepted plan prefix cell.held is.taken)
+          ∙ ap (λ cell. chosen_for plan client (accepted_among plan prefix (routes_of cell))) (sym found) ∙ sym (best-of client prefix)
 
 -- ---- a change
 

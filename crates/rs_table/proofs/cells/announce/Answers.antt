@@ -1,19 +1,20 @@
 use Rattle.std.proofs.Common.{◌≡◌, true, Some, None, ◌∙◌, ap, sym, subst}
-use Rattle.std.specs.BTreeMap.{BTreeMap, Updates, insert_entry, is_at}
+use Rattle.std.specs.BTreeMap.{BTreeMap, Updates, insert_entry}
 use Rattle.std.specs.Option.{is_some, option_copied_mut}
 use Rattle.rs_types.specs.IpPrefix.{IpPrefix}
 use Rattle.rs_types.specs.PrefixOrder.{prefix_cmp}
 use Rattle.rs_table.specs.ByPeer.{with_route}
-use Rattle.rs_table.specs.Cell.{CellContent, IsKeptCell}
+use Rattle.rs_table.specs.Cell.{CellContent, IsKeptCellOn}
 use Rattle.rs_choice.specs.Held.{sent_of_held}
 use Rattle.rs_table.specs.Cells.{AreKeptCells, cell_at, routes_of}
 use Rattle.rs_table.proofs.cells.CellsLemmas.{each-at, each-set, each-insert, at-update, updated}
+use Rattle.rs_table.proofs.cell.HeldLemmas.{taken-alone, taken-with}
 use Rattle.rs_table.proofs.cells.announce.Goals as goal
 
 pub announce-requires-clause-cell : goal.announce-requires-clause-cell
 announce-requires-clause-cell c =
-    each-at (IsKeptCell true c.args.plan.now) c.args.cells.now.entries c.args.prefix c.in-Some.cell.now c.requires.cells
-    (sym c.in-Some.ensures.value)
+    (each-at (IsKeptCellOn true c.args.plan.now) c.args.cells.now.entries c.args.prefix c.in-Some.cell.now c.requires.cells
+    (sym c.in-Some.ensures.value)).is_kept
 
 pub returns-in-Some-clause-routes : goal.returns-in-Some-clause-routes
 returns-in-Some-clause-routes c =
@@ -27,8 +28,13 @@ returns-in-Some-clause-routes c =
 pub returns-in-Some-clause-cells : goal.returns-in-Some-clause-cells
 returns-in-Some-clause-cells c =
     subst (AreKeptCells true c.args.plan.now) (sym (c.get_mut.follows.holds c.announce.new.self).0)
-    (each-set (IsKeptCell true c.args.plan.now) (is_at (prefix_cmp c.args.prefix))
-    c.args.cells.now.entries c.announce.new.self c.requires.cells c.announce.ensures.cell)
+    (each-set (IsKeptCellOn true c.args.plan.now) c.args.prefix c.args.cells.now.entries c.announce.new.self c.requires.cells
+    (record {
+      is_kept = c.announce.ensures.cell;
+      taken = taken-with c.args.plan.now c.args.prefix c.in-Some.cell.now.held c.announce.new.self.held c.args.route
+          (each-at (IsKeptCellOn true c.args.plan.now) c.args.cells.now.entries c.args.prefix c.in-Some.cell.now c.requires.cells
+          (sym c.in-Some.ensures.value)).taken c.requires.taken c.announce.ensures.held;
+    }))
 
 pub returns-clause-routes : goal.returns-clause-routes
 returns-clause-routes c =
@@ -45,5 +51,8 @@ returns-clause-cells c =
     subst (AreKeptCells true c.args.plan.now) (sym (c.in_ok-insert.ensures.entries
     ∙ ap (λ (m : BTreeMap IpPrefix CellContent). insert_entry prefix_cmp m.entries c.args.prefix c.in_ok-cell.cell)
     c.get_mut.follows.holds-at-none))
-    (each-insert (IsKeptCell true c.args.plan.now) c.args.cells.now.entries c.args.prefix c.in_ok-cell.cell c.requires.cells
-    c.in_ok-cell.ensures.cell)
+    (each-insert (IsKeptCellOn true c.args.plan.now) c.args.cells.now.entries c.args.prefix c.in_ok-cell.cell c.requires.cells
+    (record {
+      is_kept = c.in_ok-cell.ensures.cell;
+      taken = taken-alone c.args.plan.now c.args.prefix c.in_ok-cell.cell.held c.args.route c.requires.taken c.in_ok-cell.ensures.held;
+    }))

@@ -4,15 +4,16 @@ use Rattle.std.specs.Map.{remove_entry}
 use Rattle.std.specs.Option.{is_some}
 use Rattle.rs_types.specs.PrefixOrder.{prefix_cmp}
 use Rattle.rs_table.specs.ByPeer.{without_route}
-use Rattle.rs_table.specs.Cell.{IsKeptCell}
+use Rattle.rs_table.specs.Cell.{IsKeptCellOn}
 use Rattle.rs_table.specs.Cells.{AreKeptCells, cell_at, routes_of}
 use Rattle.rs_table.proofs.cells.CellsLemmas.{each-at, each-set, each-removed, at-update, updated, removed_after}
+use Rattle.rs_table.proofs.cell.HeldLemmas.{taken-without}
 use Rattle.rs_table.proofs.cells.withdraw.Goals as goal
 
 pub withdraw-requires : goal.withdraw-requires
 withdraw-requires c =
-    each-at (IsKeptCell true c.args.plan.now) c.args.cells.now.entries c.args.prefix c.in-Some.cell.now c.requires
-    (sym c.in-Some.ensures.value)
+    (each-at (IsKeptCellOn true c.args.plan.now) c.args.cells.now.entries c.args.prefix c.in-Some.cell.now c.requires
+    (sym c.in-Some.ensures.value)).is_kept
 
 pub returns-then-not-withdraw-clause-routes : goal.returns-then-not-withdraw-clause-routes
 returns-then-not-withdraw-clause-routes c =
@@ -30,7 +31,7 @@ returns-then-not-withdraw-clause-cells c =
     let w = c.withdraw.new.self in
     let test = is_at (prefix_cmp c.args.prefix) in
     subst (AreKeptCells true c.args.plan.now) (sym (c.remove.ensures.entries ∙ ap (remove_entry test) (c.get_mut.follows.holds w).0))
-    (each-removed (IsKeptCell true c.args.plan.now) test c.args.cells.now.entries w c.requires)
+    (each-removed (IsKeptCellOn true c.args.plan.now) test c.args.cells.now.entries w c.requires)
 
 pub returns-else-not-withdraw-clause-routes : goal.returns-else-not-withdraw-clause-routes
 returns-else-not-withdraw-clause-routes c =
@@ -46,5 +47,10 @@ pub returns-else-not-withdraw-clause-cells : goal.returns-else-not-withdraw-clau
 returns-else-not-withdraw-clause-cells c =
     let w = c.withdraw.new.self in
     subst (AreKeptCells true c.args.plan.now) (sym (c.get_mut.follows.holds w).0)
-    (each-set (IsKeptCell true c.args.plan.now) (is_at (prefix_cmp c.args.prefix)) c.args.cells.now.entries w c.requires
-    (c.if-not-withdraw.ensures.some refl))
+    (each-set (IsKeptCellOn true c.args.plan.now) c.args.prefix c.args.cells.now.entries w c.requires
+    (record {
+      is_kept = c.if-not-withdraw.ensures.some refl;
+      taken = taken-without c.args.plan.now c.args.prefix c.in-Some.cell.now.held w.held c.args.peer c.withdraw.ensures.held
+          (each-at (IsKeptCellOn true c.args.plan.now) c.args.cells.now.entries c.args.prefix c.in-Some.cell.now c.requires
+          (sym c.in-Some.ensures.value)).taken;
+    }))

@@ -3,7 +3,7 @@ use Rattle.std.proofs.Common.{◌≡◌, ◌∙◌, ◌∷◌, [], List, All, So
 use Rattle.std.specs.Prelude.{slice_get}
 use Rattle.std.specs.List.Sorted.{IsStrictlySortedBy}
 use Rattle.std.proofs.lemmas.List.Elements.{All-head, All-nil, All-tail, All-weaker}
-use Rattle.rs_choice.specs.Held.{sent_of_held, IsJudged}
+use Rattle.rs_choice.specs.Held.{sent_of_held, AreTakenBy, IsJudged, IsTakenBy}
 use Rattle.rs_choice.specs.declared.held_route.HeldRoute.{HeldRoute}
 use Rattle.rs_table.specs.declared.settling.Making.{Making}
 use Rattle.rs_table.specs.ByPeer.{IsRow, route_at}
@@ -32,6 +32,7 @@ loop-entry-init c =
           row = subst (IsRow 0 (length plan.peers)) (sym empty) tt;
           judged = subst (All (IsJudged plan)) (sym c.in_ok-with_capacity.ensures.items) (All-nil (IsJudged plan));
         };
+        taken = subst (AreTakenBy plan making.prefix) (sym c.in_ok-with_capacity.ensures.items) (All-nil (IsTakenBy plan making.prefix));
         cells = subst (AreKeptCells c.args.keeps_room plan) (sym c.new-2.ensures.empty) tt;
         none = λ q not_less. ap (λ (entries : Entries). routes_at entries q) c.new-2.ensures.empty;
       };

@@ -4,7 +4,7 @@ use Rattle.std.proofs.lemmas.Iterator.Adapters.{YieldsList-from_vec}
 use Rattle.std.proofs.lemmas.Iterator.Consumers.{YieldsList-turn, YieldsList-end}
 use Rattle.rs_table.specs.Logged.{Logged}
 use Rattle.rs_table.specs.declared.log.Log.{Log}
-use Rattle.rs_table.specs.Cell.{IsKeptCell}
+use Rattle.rs_table.specs.Cell.{IsKeptCellOn}
 use Rattle.rs_table.specs.Cells.{AreKeptCells}
 use Rattle.rs_table.specs.Gathered.{left_in, lists_of}
 use Rattle.rs_table.proofs.MergeLemmas.{each-joined}
@@ -36,7 +36,7 @@ loop-log-preserved c =
     let others = c.in_ok-more.more.entries in
     let joined = c.in_ok-cells.cells.entries in
     record {
-      cells = each-joined (IsKeptCell c.args.keeps_room plan)
+      cells = each-joined (IsKeptCellOn c.args.keeps_room plan)
           before others joined c.loop-log.invariant.cells c.in_ok-more.ensures.cells c.in_ok-cells.ensures.cells
           c.in_ok-cells.ensures.ordered;
       replayed = subst (λ (n : ℕ). IsReplayed losses logs n joined) (sym more)

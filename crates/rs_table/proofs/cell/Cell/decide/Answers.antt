@@ -1,7 +1,7 @@
 use Rattle.std.proofs.Common.{◌≡◌, ◌<◌, ◌∙◌, List, ap, subst, sym, arith, length, map}
 use Rattle.std.specs.List.{refill}
 use Rattle.rs_choice.specs.Clients.{AreBest}
-use Rattle.rs_choice.specs.Held.{sent_of_held}
+use Rattle.rs_choice.specs.Held.{sent_of_held, taken_in}
 use Rattle.rs_choice.specs.declared.held_route.HeldRoute.{HeldRoute}
 use Rattle.rs_table.specs.Cell.{AreBestPlaces, AreHeld, ArePlacesOf}
 use Rattle.rs_table.proofs.cell.BestLemmas.{refill-all, IsRow-wider}
@@ -34,8 +34,8 @@ returns-clause-cell c =
     let peers = c.choose_for_all.new.bests in
     let places = c.to_places.new.bests in
     let are_held : AreHeld plan held = subst (λ cell. AreHeld plan cell.held) (sym c.self.view_is) c.requires.held in
-    let chosen : AreBest plan (map sent_of_held held) peers =
-    subst (λ (one : List HeldRoute). AreBest plan (map sent_of_held one) peers) c.deref.ensures.value c.choose_for_all.ensures.best in
+    let chosen : AreBest plan (taken_in held) peers =
+    subst (λ (one : List HeldRoute). AreBest plan (taken_in one) peers) c.deref.ensures.value c.choose_for_all.ensures.best in
     let placed : ArePlacesOf (map sent_of_held held) peers places =
     subst (λ (one : List HeldRoute). ArePlacesOf (map sent_of_held one) peers places) c.deref-2.ensures.value c.to_places.ensures.places in
     let count : length places ≡ length plan.peers = c.to_places.ensures.count ∙ c.choose_for_all.ensures.count in
@@ -44,8 +44,8 @@ returns-clause-cell c =
       held = are_held;
       some = subst (λ cell. 0 < length cell.held) (sym c.self.view_is) c.requires.some;
       count = ap length stored ∙ count;
-      best = subst (AreBestPlaces plan (map sent_of_held held)) (sym stored)
-          (places-best plan (map sent_of_held held) peers places are_held.row c.choose_for_all.ensures.count chosen placed);
+      best = subst (AreBestPlaces plan held) (sym stored)
+          (places-best plan held peers places are_held.row c.choose_for_all.ensures.count chosen placed);
     }
 
 pub invariant_of-self : goal.invariant_of-self

@@ -1,5 +1,5 @@
 -- Of two changes the ranks are compared.
-use Rattle.std.proofs.Common.{◌≡◌, ◌∙◌, sym, rules}
+use Rattle.std.proofs.Common.{◌∙◌, sym, rules}
 use Rattle.rs_table.proofs.logged.RankLemmas.{by_rank}
 use Rattle.rs_table.proofs.logged.LoggedChange.compare.Goals as goal
 

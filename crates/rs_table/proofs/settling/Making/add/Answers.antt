@@ -8,7 +8,7 @@ use Rattle.rs_types.specs.IpPrefix.{IpPrefix}
 use Rattle.rs_types.specs.PathAttributes.{PathAttributes}
 use Rattle.rs_types.specs.PrefixOrder.{prefix_cmp, same_prefix}
 use Rattle.rs_choice.specs.Decision.{SentRoute}
-use Rattle.rs_choice.specs.Held.{sent_of_held, IsJudged}
+use Rattle.rs_choice.specs.Held.{sent_of_held, AreTakenBy, IsJudged, IsTakenBy}
 use Rattle.rs_table.specs.ByPeer.{IsRow, route_at}
 use Rattle.rs_table.specs.Gathered.{entry_route, is_of}
 use Rattle.rs_table.specs.Left.{RouteLeft}
@@ -35,6 +35,9 @@ returns-clause-making c =
             (All-push (IsJudged plan) making.held.items c.hold-route.result c.in_ok-turn_to.ensures.making.held.judged
             c.hold-route.ensures.judged);
       };
+      taken = subst (AreTakenBy plan making.prefix) (sym c.in_ok-push.ensures.items)
+          (All-push (IsTakenBy plan making.prefix) making.held.items c.hold-route.result c.in_ok-turn_to.ensures.making.taken
+          c.hold-route.ensures.taken);
       cells = c.in_ok-turn_to.ensures.making.cells;
       none = c.in_ok-turn_to.ensures.making.none;
     }

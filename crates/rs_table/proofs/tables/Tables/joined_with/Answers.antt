@@ -2,7 +2,7 @@ use Rattle.std.proofs.Common.{◌≡◌, ℕ, true, false, length, arith, sym, a
 use Rattle.std.proofs.lemmas.List.Elements.{All-from_get_or}
 use Rattle.std.proofs.lemmas.Result.{IfOk-weaker}
 use Rattle.rs_table.specs.declared.tables.Tables.TheInside.{Inside}
-use Rattle.rs_table.specs.Cell.{IsCell, IsKeptCell}
+use Rattle.rs_table.specs.Cell.{IsCellOn, IsKeptCellOn}
 use Rattle.rs_table.specs.Content.{TablesContent, rib_of}
 use Rattle.rs_table.specs.TablesView.{tables_view, AllClosed, AreTables}
 use Rattle.rs_table.specs.Merge.{IsJoined}
@@ -33,7 +33,7 @@ of_cells-requires-clause-cells c =
     let one = c.self.inside in
     let other = c.other.inside in
     let plans = same-plan one other c.args.self c.args.other c.self.view_is c.other.view_is c.requires.plan in
-    each-joined (IsCell one.plan.value) one.cells.entries other.cells.entries c.in_ok-cells.cells.entries c.self.invariant.cells
+    each-joined (IsCellOn one.plan.value) one.cells.entries other.cells.entries c.in_ok-cells.cells.entries c.self.invariant.cells
     (subst (λ plan. AreCells plan other.cells.entries) plans c.other.invariant.cells)
     c.in_ok-cells.ensures.cells c.in_ok-cells.ensures.ordered
 
@@ -49,7 +49,7 @@ of_cells-requires-clause-room c =
             (λ peer. ap (λ t. (rib_of t peer).closed) c.self.view_is ∙ c.requires.closed peer
             ∙ sym (ap (λ t. (rib_of t peer).closed) c.other.view_is))
             (ap (λ plan. length plan.peers) plans))
-        | inr others ↦ inr (each-joined (IsKeptCell true one.plan.value) one.cells.entries other.cells.entries
+        | inr others ↦ inr (each-joined (IsKeptCellOn true one.plan.value) one.cells.entries other.cells.entries
             c.in_ok-cells.cells.entries takes.room
             (subst (λ plan. AreKeptCells true plan other.cells.entries) plans others.room)
             c.in_ok-cells.ensures.cells c.in_ok-cells.ensures.ordered)
