@@ -34,6 +34,7 @@ exchange peers =
       local = record { asn = 64500; address = 0xC0000201; id = 0xC0000201; subnet = Some (record { address = 0xC0000200; len = 24 }) };
       peers = peers;
       large_communities = false;
+      import = no_import;
     }
 
 -- ---- routes of a
