@@ -11,6 +11,7 @@ use Rattle.std.specs.List.{cons_option, enumerate_from, filter_map, Contains}
 use Rattle.std.specs.Option.{option_map}
 use Rattle.std.specs.FinMap.{get}
 use Rattle.rs_update.specs.IpPrefix.{IpPrefix}
+use Rattle.rs_choice.specs.Acceptance.{accepts}
 use Rattle.rs_choice.specs.Eligibility.{is_eligible}
 use Rattle.rs_choice.specs.Plan.{Plan}
 use Rattle.rs_choice.specs.Policy.{is_permitted}
@@ -27,22 +28,31 @@ contenders_in plan client prefix first ribs =
     map (contender_of plan)
     (filter (λ route. is_permitted plan client route.peer route.attributes)
     (filter (λ route. is_eligible plan route.peer route.attributes)
-    (filter_map (λ (peer, rib). option_map (sent_by peer) (get rib.routes prefix)) (enumerate_from first ribs))))
+    (filter (λ route. accepts plan route.peer prefix route.attributes)
+    (filter_map (λ (peer, rib). option_map (sent_by peer) (get rib.routes prefix)) (enumerate_from first ribs)))))
 
-one_more : (plan : Plan) (client : ℕ) (first : ℕ) (left : Option RouteLeft) (later : List SentRoute) →
+one_more : (plan : Plan) (client : ℕ) (prefix : IpPrefix) (first : ℕ) (left : Option RouteLeft) (later : List SentRoute) →
     map (contender_of plan)
     (filter (λ route. is_permitted plan client route.peer route.attributes)
-    (filter (λ route. is_eligible plan route.peer route.attributes) (cons_option (option_map (sent_by first) left) later)))
-    ≡ cons_option (contender_if plan client (option_map (sent_by first) left))
+    (filter (λ route. is_eligible plan route.peer route.attributes)
+    (filter (λ route. accepts plan route.peer prefix route.attributes) (cons_option (option_map (sent_by first) left) later))))
+    ≡ cons_option (contender_if plan client prefix (option_map (sent_by first) left))
     (map (contender_of plan)
     (filter (λ route. is_permitted plan client route.peer route.attributes)
-    (filter (λ route. is_eligible plan route.peer route.attributes) later)))
-one_more plan client first None later = refl
-one_more plan client first (Some route) later = elim (cases_Bool (is_eligible plan first route.attributes)) [
-  | inr ineligible ↦ rw ineligible refl
-  | inl eligible ↦ elim (cases_Bool (is_permitted plan client first route.attributes)) [
-    | inl permitted ↦ rw (eligible, permitted) refl
-    | inr refused ↦ rw (eligible, refused) refl
+    (filter (λ route. is_eligible plan route.peer route.attributes)
+    (filter (λ route. accepts plan route.peer prefix route.attributes) later))))
+one_more plan client prefix first None later = refl
+one_more plan client prefix first (Some route) later = elim (cases_Bool (accepts plan first prefix route.attributes)) [
+  | inr filtered ↦ elim (cases_Bool (is_eligible plan first route.attributes)) [
+    | inl eligible ↦ rw (filtered, eligible) refl
+    | inr ineligible ↦ rw (filtered, ineligible) refl
+  ]
+  | inl accepted ↦ elim (cases_Bool (is_eligible plan first route.attributes)) [
+    | inr ineligible ↦ rw (accepted, ineligible) refl
+    | inl eligible ↦ elim (cases_Bool (is_permitted plan client first route.attributes)) [
+      | inl permitted ↦ rw (accepted, eligible, permitted) refl
+      | inr refused ↦ rw (accepted, eligible, refused) refl
+    ]
   ]
 ]
 
@@ -55,7 +65,7 @@ contenders_in-more tables client prefix peer within =
     let rest : drop peer tables.ribs ≡ rib_of tables peer ∷ drop (peer + 1) tables.ribs =
     rw (add-one, drop-cons tables.ribs peer nothing_held) refl in
     ap (contenders_in tables.plan client prefix peer) rest
-    ∙ one_more tables.plan client peer (get (rib_of tables peer).routes prefix)
+    ∙ one_more tables.plan client prefix peer (get (rib_of tables peer).routes prefix)
     (filter_map (λ (peer, rib). option_map (sent_by peer) (get rib.routes prefix))
     (enumerate_from (peer + 1) (drop (peer + 1) tables.ribs)))
 
@@ -65,19 +75,27 @@ route_peer peer None route is = absurd (cc)
 route_peer peer (Some left) route is = let same : route ≡ sent_by peer left = cc in ap (λ (route : SentRoute). route.peer) same
 
 -- one that policy refuses is no candidate
-pub none_refused : (plan : Plan) (client : ℕ) (route : SentRoute) → is_permitted plan client route.peer route.attributes ≡ false →
-    None ≡ contender_if plan client (Some route)
-none_refused plan client route refuses =
-    rw (refuses, and_right (is_eligible plan route.peer route.attributes) false refl) refl
+pub none_refused : (plan : Plan) (client : ℕ) (prefix : IpPrefix) (route : SentRoute)
+    → is_permitted plan client route.peer route.attributes ≡ false → None ≡ contender_if plan client prefix (Some route)
+none_refused plan client prefix route refuses =
+    rw (refuses, and_right (accepts plan route.peer prefix route.attributes) false refl,
+    and_right (is_eligible plan route.peer route.attributes) false refl) refl
 
--- and one that is eligible and permitted is
-pub some_permitted : (plan : Plan) (client peer : ℕ) (left : Option RouteLeft) (route : SentRoute)
+-- and neither is one that import policy does not take in
+pub none_filtered : (plan : Plan) (client : ℕ) (prefix : IpPrefix) (route : SentRoute)
+    → accepts plan route.peer prefix route.attributes ≡ false → None ≡ contender_if plan client prefix (Some route)
+none_filtered plan client prefix route filtered =
+    rw (filtered, and_right (is_eligible plan route.peer route.attributes) false refl) refl
+
+-- one that is taken in, eligible and permitted is
+pub some_permitted : (plan : Plan) (client peer : ℕ) (prefix : IpPrefix) (left : Option RouteLeft) (route : SentRoute)
     → Some route ≡ option_map (sent_by peer) left →
-    is_eligible plan peer route.attributes ≡ true → is_permitted plan client peer route.attributes ≡ true →
-    (route.peer ≡ peer) × (contender_if plan client (option_map (sent_by peer) left) ≡ Some (contender_of plan route))
-some_permitted plan client peer left route is eligible permitted =
+    is_eligible plan peer route.attributes ≡ true → accepts plan peer prefix route.attributes ≡ true
+    → is_permitted plan client peer route.attributes ≡ true →
+    (route.peer ≡ peer) × (contender_if plan client prefix (option_map (sent_by peer) left) ≡ Some (contender_of plan route))
+some_permitted plan client peer prefix left route is eligible accepted permitted =
     let own = route_peer peer left route is in
-    (own, rw (← is, own, eligible, permitted) refl)
+    (own, rw (← is, own, eligible, accepted, permitted) refl)
 
 -- one that is made of a peer's route is found from that peer
 pub made_from : (tables : TablesContent) (client : ℕ) (prefix : IpPrefix) (peer : ℕ) (one made : Contender) → one ≡ made → made.peer ≡ peer

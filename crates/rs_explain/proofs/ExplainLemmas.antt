@@ -1,10 +1,12 @@
 -- A route of another peer is explained by the reason why it is no candidate, or by what is decided: for explanation.rt.
-use Rattle.std.proofs.Common.{◌≡◌, ◌∙◌, sym, ap, refl, ℕ, ◌<◌, ◌==◌, true, false, length}
+use Rattle.std.proofs.Common.{◌≡◌, ◌∙◌, sym, ap, refl, ℕ, ◌<◌, ◌==◌, true, false, not, length}
 use Rattle.std.specs.Prelude.{Option, None, Some, is_none}
 use Rattle.std.specs.FinMap.{get}
-use Rattle.std.specs.Option.{option_map, option_or}
+use Rattle.std.specs.Option.{is_some, option_map, option_or}
 use Rattle.rs_update.specs.IpPrefix.{IpPrefix}
 use Rattle.rs_choice.specs.Decision.{SentRoute}
+use Rattle.rs_import.specs.declared.filter.Filter.{Filter}
+use Rattle.rs_choice.specs.Acceptance.{accepts, filter_on}
 use Rattle.rs_choice.specs.Eligibility.{is_eligible}
 use Rattle.rs_choice.specs.Plan.{Plan}
 use Rattle.rs_choice.specs.Policy.{is_permitted}
@@ -13,7 +15,7 @@ use Rattle.rs_table.specs.Table.{route_from}
 use Rattle.rs_explain.specs.declared.condition.Condition.{Condition}
 use Rattle.rs_explain.specs.declared.contender.Contender.{Contender}
 use Rattle.rs_explain.specs.declared.explanation.Explanation.{Explanation}
-use Rattle.rs_explain.specs.declared.explanation.Explanation.TheVariants.{Ineligible, Refused}
+use Rattle.rs_explain.specs.declared.explanation.Explanation.TheVariants.{Ineligible, Filtered, Refused}
 use Rattle.rs_explain.specs.declared.refusal.Refusal.{Refusal}
 use Rattle.rs_explain.specs.Contenders.{contender_from, contender_of}
 use Rattle.rs_explain.specs.Explanations.{reason_before_decision, reason_of, IsDecided, IsExplanation}
@@ -21,12 +23,14 @@ use Rattle.rs_explain.specs.Reasons.{failed_condition, refusal_of}
 use Rattle.rs_explain.proofs.AgreementLemmas.{eligible_unless, permitted_unless}
 use Rattle.rs_explain.proofs.ContenderLemmas.{made_from, route_peer, some_permitted}
 
-no_reasons : (f : Option Condition) (r : Option Refusal) →
-    option_or (option_map (λ condition. Ineligible condition) f) (option_map (λ refusal. Refused refusal) r) ≡ None →
-    (f ≡ None) × (r ≡ None)
-no_reasons None None is = (refl, refl)
-no_reasons None (Some refusal) is = absurd (cc is)
-no_reasons (Some condition) r is = absurd (cc is)
+no_reasons : (f : Option Condition) (t : Option Filter) (r : Option Refusal) →
+    option_or (option_map (λ condition. Ineligible condition) f)
+    (option_or (option_map (λ filter. Filtered filter) t) (option_map (λ refusal. Refused refusal) r)) ≡ None →
+    (f ≡ None) × (t ≡ None) × (r ≡ None)
+no_reasons None None None is = (refl, refl, refl)
+no_reasons None None (Some refusal) is = absurd (cc is)
+no_reasons None (Some filter) r is = absurd (cc is)
+no_reasons (Some condition) t r is = absurd (cc is)
 
 module _ (tables : TablesContent) (client peer : ℕ) (prefix : IpPrefix) where
   pub own_peer : (route : SentRoute) → Some route ≡ route_from tables prefix peer → route.peer ≡ peer
@@ -35,9 +39,9 @@ module _ (tables : TablesContent) (client peer : ℕ) (prefix : IpPrefix) where
   -- the reason, by the route that is found
   pub reason_is : (plan : Plan) (route : SentRoute) → plan ≡ tables.plan → (client == peer) ≡ false →
       Some route ≡ route_from tables prefix peer →
-      reason_before_decision tables client peer prefix ≡ reason_of plan client route.peer (Some route)
+      reason_before_decision tables client peer prefix ≡ reason_of plan client route.peer prefix (Some route)
   reason_is plan route same differ is =
-      rw differ (λ i. reason_of (sym same i) client (sym (own_peer route is) i) (sym is i))
+      rw differ (λ i. reason_of (sym same i) client (sym (own_peer route is) i) prefix (sym is i))
 
   pub by_reason : (explanation : Explanation) → reason_before_decision tables client peer prefix ≡ Some explanation →
       IsExplanation tables client peer prefix explanation
@@ -53,12 +57,13 @@ module _ (tables : TablesContent) (client peer : ℕ) (prefix : IpPrefix) where
       (client == peer) ≡ false → Some route ≡ route_from tables prefix peer → reason_before_decision tables client peer prefix ≡ None →
       plan ≡ tables.plan → one ≡ contender_of plan route → contender_from tables client prefix one.peer ≡ Some one
   candidate_is plan route one client_known known differ is none same made =
-      let reasons = no_reasons (failed_condition tables.plan peer route.attributes) (refusal_of tables.plan client peer route.attributes)
-      (ap (reason_of tables.plan client peer) is ∙ rw differ at none) in
+      let reasons = no_reasons (failed_condition tables.plan peer route.attributes) (filter_on tables.plan peer prefix route.attributes)
+      (refusal_of tables.plan client peer route.attributes) (ap (reason_of tables.plan client peer prefix) is ∙ rw differ at none) in
+      let accepted : accepts tables.plan peer prefix route.attributes ≡ true = ap (λ (t : Option Filter). not (is_some t)) reasons.1 in
       let eligible : is_eligible tables.plan peer route.attributes ≡ true =
       eligible_unless tables.plan peer route.attributes known ∙ ap is_none reasons.0 in
       let permitted : is_permitted tables.plan client peer route.attributes ≡ true =
-      permitted_unless tables.plan client peer route.attributes client_known known differ ∙ ap is_none reasons.1 in
-      let found = some_permitted tables.plan client peer (get (rib_of tables peer).routes prefix) route is eligible permitted in
+      permitted_unless tables.plan client peer route.attributes client_known known differ ∙ ap is_none reasons.2 in
+      let found = some_permitted tables.plan client peer prefix (get (rib_of tables peer).routes prefix) route is eligible accepted permitted in
       made_from tables client prefix peer one (contender_of tables.plan route) (made ∙ ap (λ (plan : Plan). contender_of plan route) same)
       found.0 found.1

@@ -5,6 +5,7 @@ use Rattle.std.specs.List.{All, Contains}
 use Rattle.rs_update.specs.IpPrefix.{IpPrefix}
 use Rattle.rs_choice.specs.declared.candidate.Standing.{Standing}
 use Rattle.rs_choice.specs.Decision.{standing_of, SentRoute}
+use Rattle.rs_choice.specs.Acceptance.{accepts}
 use Rattle.rs_choice.specs.Eligibility.{is_eligible}
 use Rattle.rs_choice.specs.Plan.{Peer, Plan}
 use Rattle.rs_choice.specs.Policy.{is_permitted}
@@ -24,14 +25,15 @@ abbrev pub contenders_of : TablesContent → ℕ → IpPrefix → List Contender
 contenders_of tables client prefix = map (contender_of tables.plan) (candidates_of tables client prefix)
 
 -- a peer's route on a prefix, if it is a candidate of the client
-abbrev pub contender_if : Plan → ℕ → Option SentRoute → Option Contender
-contender_if plan client None = None
-contender_if plan client (Some route) =
-    if is_eligible plan route.peer route.attributes && is_permitted plan client route.peer route.attributes
+abbrev pub contender_if : Plan → ℕ → IpPrefix → Option SentRoute → Option Contender
+contender_if plan client prefix None = None
+contender_if plan client prefix (Some route) =
+    if is_eligible plan route.peer route.attributes && (accepts plan route.peer prefix route.attributes
+    && is_permitted plan client route.peer route.attributes)
     then Some (contender_of plan route) else None
 
 abbrev pub contender_from : TablesContent → ℕ → IpPrefix → ℕ → Option Contender
-contender_from tables client prefix peer = contender_if tables.plan client (route_from tables prefix peer)
+contender_from tables client prefix peer = contender_if tables.plan client prefix (route_from tables prefix peer)
 
 -- the candidate is of a peer of the plan, and has this peer's address
 abbrev pub HasOwnAddress : Plan → Contender → Type 0

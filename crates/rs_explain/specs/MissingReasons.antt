@@ -3,7 +3,7 @@ use Rattle.std.specs.Prelude.{Option, None, Some}
 use Rattle.rs_explain.specs.declared.explanation.Explanation.{Explanation}
 use Rattle.rs_explain.specs.declared.explanation.Explanation.TheVariants as explanations
 use Rattle.rs_explain.specs.declared.missing_reason.MissingReason.{MissingReason}
-use Rattle.rs_explain.specs.declared.missing_reason.MissingReason.TheVariants.{Ineligible, RefusedByName}
+use Rattle.rs_explain.specs.declared.missing_reason.MissingReason.TheVariants.{Ineligible, Filtered, RefusedByName}
 use Rattle.rs_explain.specs.declared.missing_reason.MissingReason.TheVariants.{RefusedByCommunity}
 use Rattle.rs_explain.specs.declared.missing_reason.MissingReason.TheVariants.{RefusedByLargeCommunity, Lost}
 use Rattle.rs_explain.specs.declared.refusal.Refusal.{Refusal}
@@ -23,6 +23,7 @@ abbrev pub reason_in : Explanation → Option MissingReason
 reason_in explanations.Own = None
 reason_in explanations.Absent = None
 reason_in (explanations.Ineligible condition) = Some (Ineligible (kind_of condition))
+reason_in (explanations.Filtered filter) = Some (Filtered filter)
 reason_in (explanations.Refused refusal) = Some (reason_of_refusal refusal)
 reason_in (explanations.Best beaten) = None
 reason_in (explanations.Lost removal) = Some (Lost removal.step)

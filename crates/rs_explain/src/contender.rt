@@ -8,6 +8,7 @@ ghost use Rattle.rs_table.specs.RouteView.{sent_route_of};
 
 use rs_choice::{Candidate, Exchange, Standing};
 use rs_table::{PrefixRoutes, Route, Tables};
+use rs_update::Prefix;
 use std::alloc::{AllocError, Global};
 
 /// A candidate of a client for a prefix.
@@ -38,15 +39,23 @@ pub(crate) fn contender_of(plan: &Exchange, route: &Route) -> Contender
 }
 
 // A route, if it is a candidate of a client.
-fn candidate_of(plan: &Exchange, client: usize, route: &Route) -> Option<Contender>
+fn candidate_of(
+    plan: &Exchange,
+    client: usize,
+    prefix: Prefix,
+    route: &Route,
+) -> Option<Contender>
     requires client_known { client < length plan.now.peers }
     requires peer_known { route.now.peer < length plan.now.peers }
-    ensures value { result ≡ contender_if plan.now client (Some (sent_route_of route.now)) }
+    ensures value { result ≡ contender_if plan.now client prefix (Some (sent_route_of route.now)) }
     ensures address { IfSome result (HasOwnAddress plan.now) }
 {
     // For the prover: the plan has a peer of this number.
     let _sender = plan.peer(route.peer);
     if !plan.eligible(route.peer, route.attributes) {
+        return None;
+    }
+    if !plan.accepts(route.peer, prefix, route.attributes) {
         return None;
     }
     if !plan.permits(client, route.peer, route.attributes) {
@@ -64,7 +73,7 @@ fn candidate_on(tables: &Tables, client: usize, peer: usize, on: &PrefixRoutes) 
     ensures address { IfSome result (HasOwnAddress tables.now.plan) }
 {
     let route = on.route(peer)?;
-    candidate_of(tables.plan(), client, &route)
+    candidate_of(tables.plan(), client, on.prefix, &route)
 }
 
 // All candidates of a client for a prefix, in the order of the peers.

@@ -14,6 +14,7 @@ use crate::contender::{Contender, contender_of, contenders};
 use crate::refusal::{Refusal, refusing_rule};
 use crate::removal::{Removal, STEPS, removed_by};
 use rs_choice::{Exchange, peers_have_addresses_of_their_own, the_choice_is_unbeaten};
+use rs_import::Filter;
 use rs_table::{PrefixRoutes, Route, Tables};
 use rs_update::Prefix;
 use std::alloc::{AllocError, Global};
@@ -27,6 +28,8 @@ pub enum Explanation {
     Absent,
     /// The peer's route isn't eligible (RFC 4271, sections 6.3 and 9.1.2): the first condition that it fails.
     Ineligible(Condition),
+    /// Import policy doesn't take the peer's route in (RFC 4271, section 9.1.1): the first condition that it fails.
+    Filtered(Filter),
     /// Export policy refuses the peer's route to the client (RFC 7947, section 2.3): the rule that refuses it.
     Refused(Refusal),
     /// The client's table has the peer's route: the numbers of the peers whose routes it beat, all other
@@ -134,7 +137,7 @@ fn explain_other(
     let Some(route) = on.route(peer) else {
         return Ok(Explanation::Absent);
     };
-    if let Some(reason) = reason(tables.plan(), client, &route) {
+    if let Some(reason) = reason(tables.plan(), client, on.prefix, &route) {
         return Ok(reason);
     }
     let one = contender_of(tables.plan(), &route);
@@ -165,13 +168,16 @@ fn decided_on(
 }
 
 // Why a route of another peer is no candidate of a client, if it isn't.
-fn reason(plan: &Exchange, client: usize, route: &Route) -> Option<Explanation>
+fn reason(plan: &Exchange, client: usize, prefix: Prefix, route: &Route) -> Option<Explanation>
     requires client_known { client < length plan.now.peers }
     requires peer_known { route.now.peer < length plan.now.peers }
-    ensures { result ≡ reason_of plan.now client route.now.peer (Some (sent_route_of route.now)) }
+    ensures { result ≡ reason_of plan.now client route.now.peer prefix (Some (sent_route_of route.now)) }
 {
     if let Some(condition) = failed_condition(plan, route.peer, route.attributes) {
         return Some(Explanation::Ineligible(condition));
+    }
+    if let Some(filter) = plan.filter(route.peer, prefix, route.attributes) {
+        return Some(Explanation::Filtered(filter));
     }
     let refusal = refusing_rule(plan, client, route.peer, route.attributes)?;
     Some(Explanation::Refused(refusal))

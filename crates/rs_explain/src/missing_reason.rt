@@ -7,12 +7,15 @@ use crate::condition::ConditionKind;
 use crate::explanation::Explanation;
 use crate::refusal::Refusal;
 use rs_choice::Step;
+use rs_import::Filter;
 
 /// The reason for which a client does not get a route.
 #[derive(Clone, Copy, Debug, PartialEq, Eq)]
 pub enum MissingReason {
     /// The route fails this condition of eligibility.
     Ineligible(ConditionKind),
+    /// This filter of import policy doesn't take the route in.
+    Filtered(Filter),
     /// The client refuses all routes of the sender, by its name.
     RefusedByName,
     /// A community of the route refuses it.
@@ -34,6 +37,7 @@ impl MissingReason {
             Explanation::Ineligible(condition) => {
                 Some(MissingReason::Ineligible(condition.kind()))
             }
+            Explanation::Filtered(filter) => Some(MissingReason::Filtered(*filter)),
             Explanation::Refused(refusal) => Some(reason_of_refusal(*refusal)),
             Explanation::Best(_) => None,
             Explanation::Lost(removal) => Some(MissingReason::Lost(removal.step)),

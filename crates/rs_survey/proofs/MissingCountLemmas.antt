@@ -14,9 +14,11 @@ use Rattle.rs_choice.specs.Decision.{SentRoute, decision_steps, standing_of}
 use Rattle.rs_table.specs.Content.{TablesContent, rib_of}
 use Rattle.rs_table.specs.RouteView.{sent_route_of}
 use Rattle.rs_table.specs.Table.{TableRow, best_of, candidates_of, is_from, prefixes_held, route_from}
+use Rattle.rs_import.specs.declared.filter.Filter.{Filter}
+use Rattle.rs_choice.specs.Acceptance.{filter_on}
 use Rattle.rs_explain.specs.declared.condition.Condition.{Condition}
 use Rattle.rs_explain.specs.declared.explanation.Explanation.{Explanation}
-use Rattle.rs_explain.specs.declared.explanation.Explanation.TheVariants.{Own, Absent, Ineligible, Refused, Best, Lost}
+use Rattle.rs_explain.specs.declared.explanation.Explanation.TheVariants.{Own, Absent, Ineligible, Filtered, Refused, Best, Lost}
 use Rattle.rs_explain.specs.declared.missing_reason.MissingReason.TheVariants as reasons
 use Rattle.rs_explain.specs.declared.refusal.Refusal.{Refusal}
 use Rattle.rs_explain.specs.Explanations.{IsDecided, IsExplanation, reason_of}
@@ -55,6 +57,7 @@ decided_reason : (tables : TablesContent) (client : ℕ) (prefix : IpPrefix) (ro
 decided_reason tables client prefix route Own missing is decided = absurd decided
 decided_reason tables client prefix route Absent missing is decided = absurd decided
 decided_reason tables client prefix route (Ineligible condition) missing is decided = absurd decided
+decided_reason tables client prefix route (Filtered filter) missing is decided = absurd decided
 decided_reason tables client prefix route (Refused refusal) missing is decided = absurd decided
 decided_reason tables client prefix route (Best beaten) missing is decided =
     absurd (cc (sym decided.0 ∙ missing.not_best))
@@ -65,17 +68,19 @@ decided_reason tables client prefix route (Lost removal) missing is decided =
     (ap (removed_at (standing_of tables.plan) decision_steps (candidates_of tables client prefix)) (sym same) ∙ step.2))
 
 reason_by : (tables : TablesContent) (client : ℕ) (prefix : IpPrefix) (route : SentRoute) (explanation : Explanation)
-    (failed : Option Condition) (refusal : Option Refusal) →
+    (failed : Option Condition) (filter : Option Filter) (refusal : Option Refusal) →
     IsMissingRoute tables client prefix route → IsExplanation tables client route.peer prefix explanation →
-    MatchOption (option_or (option_map (λ condition. Ineligible condition) failed) (option_map (λ refusal. Refused refusal) refusal))
+    MatchOption (option_or (option_map (λ condition. Ineligible condition) failed)
+    (option_or (option_map (λ filter. Filtered filter) filter) (option_map (λ refusal. Refused refusal) refusal)))
     (IsDecided tables client route.peer prefix explanation) (λ reason. explanation ≡ reason) → reason_in explanation
     ≡ option_or (option_map (λ condition. reasons.Ineligible (kind_of condition)) failed)
-    (option_or (option_map reason_of_refusal refusal)
+    (option_or (option_map (λ filter. reasons.Filtered filter) filter) (option_or (option_map reason_of_refusal refusal)
     (option_map (λ step. reasons.Lost step)
-    (removed_at (standing_of tables.plan) decision_steps (candidates_of tables client prefix) route)))
-reason_by tables client prefix route explanation (Some condition) refusal missing is says = ap reason_in says
-reason_by tables client prefix route explanation None (Some refusal) missing is says = ap reason_in says
-reason_by tables client prefix route explanation None None missing is says =
+    (removed_at (standing_of tables.plan) decision_steps (candidates_of tables client prefix) route))))
+reason_by tables client prefix route explanation (Some condition) filter refusal missing is says = ap reason_in says
+reason_by tables client prefix route explanation None (Some filter) refusal missing is says = ap reason_in says
+reason_by tables client prefix route explanation None None (Some refusal) missing is says = ap reason_in says
+reason_by tables client prefix route explanation None None None missing is says =
     decided_reason tables client prefix route explanation missing is says
 
 other_client : (m n : ℕ) → (m == n) ≡ false → (n == m) ≡ false
@@ -88,9 +93,10 @@ pub reason_explained : (tables : TablesContent) (client : ℕ) (prefix : IpPrefi
 reason_explained tables client prefix route explanation missing is =
     let other : (client == route.peer) ≡ false = other_client route.peer client missing.another in
     let before : (if_own : Bool) → (left : Option SentRoute) → Type 0 = λ if_own left.
-    MatchOption (cond if_own (Some Own) (reason_of tables.plan client route.peer left))
+    MatchOption (cond if_own (Some Own) (reason_of tables.plan client route.peer prefix left))
     (IsDecided tables client route.peer prefix explanation) (λ reason. explanation ≡ reason) in
     reason_by tables client prefix route explanation (failed_condition tables.plan route.peer route.attributes)
+    (filter_on tables.plan route.peer prefix route.attributes)
     (refusal_of tables.plan client route.peer route.attributes) missing is
     (subst (before false) missing.is_left (subst (λ (own : Bool). before own (route_from tables prefix route.peer)) other is))
 

@@ -1,7 +1,10 @@
 -- The routes on a prefix, peer after peer, and what is seen of each: for seen.rt and removing.rt.
 use Rattle.std.proofs.Common.{◌≡◌, ◌∙◌, sym, ap, refl, ℕ, ◌<◌, ◌+◌, Bool, true, false, ◌&&◌, List, [], ◌∷◌, ◌++◌, length, map, drop}
 use Rattle.std.proofs.Common.{drop-cons, add-one, append_assoc}
-use Rattle.std.specs.Prelude.{Option, None, Some, is_none, is_some, not}
+use Rattle.std.specs.Prelude.{Option, None, Some, filter, is_none, is_some, not}
+use Rattle.std.specs.List.{All}
+use Rattle.std.proofs.Common.{cond}
+use Rattle.std.proofs.lemmas.List.Elements.{All-head, All-tail}
 use Rattle.std.specs.List.{cons_option, enumerate_from, filter_map}
 use Rattle.std.specs.Option.{option_map}
 use Rattle.std.specs.FinMap.{get}
@@ -11,6 +14,8 @@ use Rattle.rs_update.specs.IpPrefix.{IpPrefix}
 use Rattle.rs_choice.specs.declared.candidate.Standing.{Standing}
 use Rattle.rs_choice.specs.declared.step.Step.TheVariants as steps
 use Rattle.rs_choice.specs.Decision.{SentRoute, beats}
+use Rattle.rs_choice.specs.Acceptance.{accepted_among, accepts, filter_on}
+use Rattle.rs_choice.specs.Naturality.{filter-map}
 use Rattle.rs_choice.specs.Eligibility.{is_eligible}
 use Rattle.rs_choice.specs.Plan.{Plan}
 use Rattle.rs_table.specs.Content.{RibContent, TablesContent, nothing_held, rib_of}
@@ -19,7 +24,7 @@ use Rattle.rs_explain.specs.Reasons.{failed_condition, kind_of}
 use Rattle.rs_explain.specs.Removals.{beats_by_med}
 use Rattle.rs_explain.proofs.AgreementLemmas.{eligible_unless}
 use Rattle.rs_survey.specs.declared.seen.Seen.{Seen}
-use Rattle.rs_survey.specs.Seen.{IsSeen}
+use Rattle.rs_survey.specs.Seen.{IsFilteredOn, IsSeen, sent_of_seen}
 
 -- the routes of the peers from one number on
 abbrev pub routes_from : IpPrefix → ℕ → List RibContent → List SentRoute
@@ -33,6 +38,32 @@ routes_from-more tables prefix peer within =
     let rest : drop peer tables.ribs ≡ rib_of tables peer ∷ drop (peer + 1) tables.ribs =
     rw (add-one, drop-cons tables.ribs peer nothing_held) refl in
     ap (routes_from prefix peer) rest
+
+-- the routes that are taken in are those that import policy accepts on the prefix
+none-not-some : {A : Type 0} (o : Option A) → is_none o ≡ not (is_some o)
+none-not-some None = refl
+none-not-some (Some x) = refl
+
+pub taken_are : (plan : Plan) (prefix : IpPrefix) (seen : List Seen) → All (IsFilteredOn plan prefix) seen
+    → map sent_of_seen (filter (λ one. is_none one.filter) seen) ≡ accepted_among plan prefix (map sent_of_seen seen)
+taken_are plan prefix seen all =
+    ap (map sent_of_seen) (same seen all)
+    ∙ sym (filter-map sent_of_seen (λ (sent : SentRoute). accepts plan sent.peer prefix sent.attributes) seen)
+  where
+    is_in : Seen → Bool
+    is_in one = is_none one.filter
+
+    is_accepted : Seen → Bool
+    is_accepted one = accepts plan one.route.peer prefix one.route.attributes.now
+
+    same : (seen : List Seen) → All (IsFilteredOn plan prefix) seen → filter is_in seen ≡ filter is_accepted seen
+    same [] all = refl
+    same (one ∷ later) all =
+        let here : is_in one ≡ is_accepted one =
+        ap is_none (All-head (IsFilteredOn plan prefix) one later all)
+        ∙ none-not-some (filter_on plan one.route.peer prefix one.route.attributes.now) in
+        ap (λ b. cond b (one ∷ filter is_in later) (filter is_in later)) here
+        ∙ ap (λ list. cond (is_accepted one) (one ∷ list) list) (same later (All-tail (IsFilteredOn plan prefix) one later all))
 
 -- a route is eligible where no condition is found that it fails
 none-map : {A B : Type 0} (f : A → B) (o : Option A) → is_none (option_map f o) ≡ is_none o

@@ -8,6 +8,7 @@ use Rattle.rs_update.specs.IpPrefix.{IpPrefix}
 use Rattle.rs_choice.specs.declared.candidate.Standing.{Standing}
 use Rattle.rs_choice.specs.declared.step.Step.{Step}
 use Rattle.rs_choice.specs.Decision.{SentRoute, beats, decision_steps, remaining, standing_of, unbeaten}
+use Rattle.rs_choice.specs.Acceptance.{accepts}
 use Rattle.rs_choice.specs.Eligibility.{is_eligible}
 use Rattle.rs_choice.specs.Naturality.{list_any-map, unbeaten-map}
 use Rattle.rs_choice.specs.Plan.{Plan}
@@ -61,11 +62,13 @@ any-mem p set one there passes = elim (cases_Bool (list_any p set)) [
 ]
 
 -- a candidate is made of its peer's route
-made_of_route : (plan : Plan) (client : ℕ) (left : Option SentRoute) (one : Contender) → contender_if plan client left ≡ Some one →
+made_of_route : (plan : Plan) (client : ℕ) (prefix : IpPrefix) (left : Option SentRoute) (one : Contender)
+    → contender_if plan client prefix left ≡ Some one →
     (route : SentRoute) × (left ≡ Some route) × (contender_of plan route ≡ one)
-made_of_route plan client None one is = absurd (cc is)
-made_of_route plan client (Some route) one is =
-    cond_both (is_eligible plan route.peer route.attributes && is_permitted plan client route.peer route.attributes)
+made_of_route plan client prefix None one is = absurd (cc is)
+made_of_route plan client prefix (Some route) one is =
+    cond_both (is_eligible plan route.peer route.attributes && (accepts plan route.peer prefix route.attributes
+    && is_permitted plan client route.peer route.attributes))
     (Some (contender_of plan route)) None
     (λ found. found ≡ Some one → (route' : SentRoute) × (Some route ≡ Some route') × (contender_of plan route' ≡ one))
     (λ passes found. (route, refl, cc found))
@@ -91,7 +94,7 @@ counted_step tables client peer prefix removal is =
     ap (λ (all : List Step). removed_at standing_in all set loss.loser) steps.order
     ∙ removed_after standing_in steps.before removal.step steps.after set loss.loser (contains-mem reached loss.loser steps.reaches)
     (any-mem (beaten_by removal.step loss.loser) reached removal.rival rival found.1) in
-    let made = made_of_route tables.plan client (route_from tables prefix peer) loss.loser loss.is_candidate in (
+    let made = made_of_route tables.plan client prefix (route_from tables prefix peer) loss.loser loss.is_candidate in (
       made.0,
       made.1,
       sym (removed_at-map (contender_of tables.plan) standing_in decision_steps (candidates_of tables client prefix) made.0)

@@ -13,14 +13,16 @@ use Rattle.std.proofs.lemmas.List.Elements.{All-push}
 use Rattle.std.proofs.lemmas.List.Sums.{sum_by-append}
 use Rattle.rs_choice.specs.declared.step.Step.{Step}
 use Rattle.rs_choice.specs.declared.step.Step.TheVariants.{Preference, PathLength, Origin, Med, Identifier, Address}
+use Rattle.rs_import.specs.declared.filter.Filter.{Filter}
+use Rattle.rs_import.specs.declared.filter.Filter.TheVariants as filters
 use Rattle.rs_explain.specs.declared.condition.ConditionKind.{ConditionKind}
 use Rattle.rs_explain.specs.declared.condition.ConditionKind.TheVariants.{OwnAs, ServerAsNextHop, NextHopOffExchange}
 use Rattle.rs_explain.specs.declared.missing_reason.MissingReason.{MissingReason}
 use Rattle.rs_explain.specs.declared.missing_reason.MissingReason.TheVariants as reasons
 use Rattle.rs_survey.specs.declared.finding.Finding.{Finding}
-use Rattle.rs_survey.specs.declared.finding.Finding.TheVariants.{Left, Ineligible, Refused, Lost, Best, Removed, Hidden, Missing}
+use Rattle.rs_survey.specs.declared.finding.Finding.TheVariants.{Left, Ineligible, Filtered, Refused, Lost, Best, Removed, Hidden, Missing}
 use Rattle.rs_survey.specs.declared.finding.Key.{Key}
-use Rattle.rs_survey.specs.Findings.{IsKnown, condition_number, is_same, is_same_key, key_of, reason_number, step_number}
+use Rattle.rs_survey.specs.Findings.{IsKnown, condition_number, filter_number, is_same, is_same_key, key_of, reason_number, step_number}
 use Rattle.rs_survey.specs.Tally.{IsTally, TallyContent, digits, most, place_in, room_for}
 
 -- ---- places tell findings apart
@@ -48,8 +50,19 @@ step_below Med = omega arith
 step_below Identifier = omega arith
 step_below Address = omega arith
 
-reason_below : (reason : MissingReason) → reason_number reason < 12
+filter_below : (filter : Filter) → filter_number filter < 8
+filter_below filters.PrefixLength = omega arith
+filter_below filters.RefusedPrefix = omega arith
+filter_below filters.PathLengthLimit = omega arith
+filter_below filters.RefusedAs = omega arith
+filter_below filters.FirstAs = omega arith
+filter_below filters.PrefixList = omega arith
+filter_below filters.OriginAs = omega arith
+filter_below filters.RpkiInvalid = omega arith
+
+reason_below : (reason : MissingReason) → reason_number reason < 20
 reason_below (reasons.Ineligible condition) = omega (arith, condition_below condition)
+reason_below (reasons.Filtered filter) = omega (arith, filter_below filter)
 reason_below reasons.RefusedByName = omega arith
 reason_below reasons.RefusedByCommunity = omega arith
 reason_below reasons.RefusedByLargeCommunity = omega arith
@@ -66,6 +79,8 @@ has_digits peers (Removed step) known = record { first = omega (arith, step_belo
 has_digits peers Hidden known = record { first = omega arith; second = omega arith }
 has_digits peers (Missing sender reason) known =
     record { first = omega (arith, known); second = omega (arith, reason_below reason) }
+has_digits peers (Filtered sender filter) known =
+    record { first = omega (arith, known); second = omega (arith, filter_below filter) }
 
 and_true : (x y : Bool) → (x && y) ≡ true → (x ≡ true) × (y ≡ true)
 and_true true true both = (refl, refl)
@@ -92,7 +107,7 @@ same_key width one other digits also same =
     let first = digits_same width one.kind one.first other.kind other.first digits.first also.first second.0 in
     rw (is_equal one.kind other.kind first.0, is_equal one.first other.first first.1, is_equal one.second other.second second.1) refl
 
-kind_below : (finding : Finding) → (key_of finding).kind < 8
+kind_below : (finding : Finding) → (key_of finding).kind < 9
 kind_below (Left sender) = omega arith
 kind_below (Ineligible sender condition) = omega arith
 kind_below (Refused client sender) = omega arith
@@ -101,9 +116,10 @@ kind_below (Best client sender) = omega arith
 kind_below (Removed step) = omega arith
 kind_below Hidden = omega arith
 kind_below (Missing sender reason) = omega arith
+kind_below (Filtered sender filter) = omega arith
 
-room_is : (width : ℕ) → width * (width * 8) ≡ room_for width
-room_is width = mul_comm width (width * 8) ∙ ap (λ n. n * width) (mul_comm width 8)
+room_is : (width : ℕ) → width * (width * 9) ≡ room_for width
+room_is width = mul_comm width (width * 9) ∙ ap (λ n. n * width) (mul_comm width 9)
 
 -- ---- one more
 
@@ -162,7 +178,7 @@ place_within peers finding known =
     let width = digits peers in
     let key = key_of finding in
     let has = has_digits peers finding known in
-    let outer : (key.kind * width + key.first) * width + key.second < width * (width * 8) =
-    mul-add-lt (key.kind * width + key.first) width key.second (width * 8) (mul-add-lt key.kind width key.first 8 (kind_below finding)
+    let outer : (key.kind * width + key.first) * width + key.second < width * (width * 9) =
+    mul-add-lt (key.kind * width + key.first) width key.second (width * 9) (mul-add-lt key.kind width key.first 9 (kind_below finding)
     has.first) has.second in
     subst (λ (room : ℕ). place_in width key < room) (room_is width) outer

@@ -2,12 +2,14 @@
 use Rattle.std.specs.Prelude.{◌<◌, ℕ, ◌+◌, ◌==◌, ◌&&◌, Bool}
 use Rattle.rs_choice.specs.declared.step.Step.{Step}
 use Rattle.rs_choice.specs.declared.step.Step.TheVariants.{Preference, PathLength, Origin, Med, Identifier, Address}
+use Rattle.rs_import.specs.declared.filter.Filter.{Filter}
+use Rattle.rs_import.specs.declared.filter.Filter.TheVariants as filters
 use Rattle.rs_explain.specs.declared.condition.ConditionKind.{ConditionKind}
 use Rattle.rs_explain.specs.declared.condition.ConditionKind.TheVariants.{OwnAs, ServerAsNextHop, NextHopOffExchange}
 use Rattle.rs_explain.specs.declared.missing_reason.MissingReason.{MissingReason}
 use Rattle.rs_explain.specs.declared.missing_reason.MissingReason.TheVariants as reasons
 use Rattle.rs_survey.specs.declared.finding.Finding.{Finding}
-use Rattle.rs_survey.specs.declared.finding.Finding.TheVariants.{Left, Ineligible, Refused, Lost, Best}
+use Rattle.rs_survey.specs.declared.finding.Finding.TheVariants.{Left, Ineligible, Filtered, Refused, Lost, Best}
 use Rattle.rs_survey.specs.declared.finding.Finding.TheVariants.{Removed, Hidden, Missing}
 use Rattle.rs_survey.specs.declared.finding.Key.{Key}
 
@@ -25,13 +27,25 @@ step_number Med = 3
 step_number Identifier = 4
 step_number Address = 5
 
--- the reasons by their places: conditions, rules, steps
+-- the filters of import policy by their places in its order
+abbrev pub filter_number : Filter → ℕ
+filter_number filters.PrefixLength = 0
+filter_number filters.RefusedPrefix = 1
+filter_number filters.PathLengthLimit = 2
+filter_number filters.RefusedAs = 3
+filter_number filters.FirstAs = 4
+filter_number filters.PrefixList = 5
+filter_number filters.OriginAs = 6
+filter_number filters.RpkiInvalid = 7
+
+-- the reasons by their places: conditions, filters, rules, steps
 abbrev pub reason_number : MissingReason → ℕ
 reason_number (reasons.Ineligible condition) = condition_number condition
-reason_number reasons.RefusedByName = 3
-reason_number reasons.RefusedByCommunity = 4
-reason_number reasons.RefusedByLargeCommunity = 5
-reason_number (reasons.Lost step) = 6 + step_number step
+reason_number (reasons.Filtered filter) = 3 + filter_number filter
+reason_number reasons.RefusedByName = 11
+reason_number reasons.RefusedByCommunity = 12
+reason_number reasons.RefusedByLargeCommunity = 13
+reason_number (reasons.Lost step) = 14 + step_number step
 
 -- three numbers that distinguish a finding from all others: its kind, and what it is about
 abbrev pub key_of : Finding → Key
@@ -43,6 +57,7 @@ key_of (Best client sender) = record { kind = 4; first = client; second = sender
 key_of (Removed step) = record { kind = 5; first = step_number step; second = 0 }
 key_of Hidden = record { kind = 6; first = 0; second = 0 }
 key_of (Missing sender reason) = record { kind = 7; first = sender; second = reason_number reason }
+key_of (Filtered sender filter) = record { kind = 8; first = sender; second = filter_number filter }
 
 -- two keys are equal
 abbrev pub is_same_key : Key → Key → Bool
@@ -61,3 +76,4 @@ IsKnown peers (Best client sender) = (client < peers) × (sender < peers)
 IsKnown peers (Removed step) = Unit {0}
 IsKnown peers Hidden = Unit {0}
 IsKnown peers (Missing sender reason) = sender < peers
+IsKnown peers (Filtered sender filter) = sender < peers

@@ -3,11 +3,12 @@ use Rattle.std.specs.Prelude.{ℕ, if◌then◌else◌, List, [], Option, None, 
 use Rattle.std.specs.List.{filter_map, flat_map}
 use Rattle.std.specs.Option.{option_map, option_or}
 use Rattle.rs_update.specs.IpPrefix.{IpPrefix}
+use Rattle.rs_choice.specs.Acceptance.{filter_on}
 use Rattle.rs_choice.specs.Decision.{decision_steps, standing_of}
 use Rattle.rs_table.specs.Content.{TablesContent}
 use Rattle.rs_table.specs.Table.{TableRow, best_of, candidates_of, prefixes_held}
 use Rattle.rs_explain.specs.declared.missing_reason.MissingReason.{MissingReason}
-use Rattle.rs_explain.specs.declared.missing_reason.MissingReason.TheVariants.{Ineligible, Lost}
+use Rattle.rs_explain.specs.declared.missing_reason.MissingReason.TheVariants.{Ineligible, Filtered, Lost}
 use Rattle.rs_explain.specs.MissingReasons.{reason_in, reason_of_refusal}
 use Rattle.rs_explain.specs.Reasons.{failed_condition, kind_of, refusal_of}
 use Rattle.rs_survey.specs.declared.finding.Finding.{Finding}
@@ -18,15 +19,18 @@ use Rattle.rs_survey.specs.Summary.{removed_at}
 
 -- The reason why a client does not get a route of another peer. The first that applies counts:
 -- - The first condition of eligibility that the route fails.
+-- - The filter of import policy that does not take it in.
 -- - The rule of export policy that refuses it.
 -- - The step of the decision process that removes it.
 abbrev pub reason_for : TablesContent → ℕ → TableRow → Option MissingReason
 reason_for tables client row =
     option_or (option_map (λ condition. Ineligible (kind_of condition))
     (failed_condition tables.plan row.route.peer row.route.attributes))
+    (option_or (option_map (λ filter. Filtered filter)
+    (filter_on tables.plan row.route.peer row.prefix row.route.attributes))
     (option_or (option_map reason_of_refusal (refusal_of tables.plan client row.route.peer row.route.attributes))
     (option_map (λ step. Lost step)
-    (removed_at (standing_of tables.plan) decision_steps (candidates_of tables client row.prefix) row.route)))
+    (removed_at (standing_of tables.plan) decision_steps (candidates_of tables client row.prefix) row.route))))
 
 -- the finding for a route that a client does not get
 abbrev pub missing_finding : TablesContent → ℕ → TableRow → Option Finding

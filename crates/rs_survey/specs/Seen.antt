@@ -5,6 +5,8 @@ use Rattle.rs_choice.specs.declared.candidate.Candidate.{Candidate}
 use Rattle.rs_choice.specs.declared.candidate.Standing.{Standing}
 use Rattle.rs_choice.specs.declared.step.Step.{Step}
 use Rattle.rs_choice.specs.declared.step.Step.TheVariants as steps
+use Rattle.rs_update.specs.IpPrefix.{IpPrefix}
+use Rattle.rs_choice.specs.Acceptance.{filter_on}
 use Rattle.rs_choice.specs.Clients.{is_sent_to}
 use Rattle.rs_choice.specs.Decision.{SentRoute, beats, standing_of}
 use Rattle.rs_choice.specs.Eligibility.{is_eligible}
@@ -24,6 +26,10 @@ pub record IsSeen (plan : Plan) (seen : Seen) : Type 0 where
   pub standing : seen.standing ≡ standing_of plan (sent_of_seen seen)
   pub failed : seen.failed ≡ option_map kind_of (failed_condition plan seen.route.peer seen.route.attributes.now)
   pub restricted : seen.restricted ≡ may_refuse plan seen.route.attributes.now
+
+-- what is stored says which filter of import policy does not take the route in on a prefix
+abbrev pub IsFilteredOn : Plan → IpPrefix → Seen → Type 0
+IsFilteredOn plan prefix seen = seen.filter ≡ filter_on plan seen.route.peer prefix seen.route.attributes.now
 
 -- the route `other` is a candidate of the client, which gets `best`, and it removes `one` by MED
 abbrev pub keeps_out : Plan → ℕ → Standing → Standing → SentRoute → Bool

@@ -2,7 +2,7 @@
 use Rattle.std.specs.Prelude.{ℕ, ◌==◌, ◌&&◌, ◌||◌, ◌++◌, Bool, false, not, if◌then◌else◌, List, [], ◌∷◌, length}
 use Rattle.std.specs.Prelude.{Option, None, Some, is_some}
 use Rattle.std.specs.List.{flat_map, list_any, range_with_len}
-use Rattle.std.specs.Option.{option_map, option_map_or, option_to_list}
+use Rattle.std.specs.Option.{option_map, option_map_or, option_or, option_to_list}
 use Rattle.rs_update.specs.IpPrefix.{IpPrefix}
 use Rattle.rs_choice.specs.declared.candidate.Standing.{Standing}
 use Rattle.rs_choice.specs.declared.step.Step.{Step}
@@ -10,10 +10,14 @@ use Rattle.rs_choice.specs.Clients.{candidates_among, chosen_for, eligible_among
 use Rattle.rs_choice.specs.Decision.{SentRoute, beats, choice, decision_steps, standing_of, unbeaten}
 use Rattle.rs_choice.specs.Plan.{Plan}
 use Rattle.rs_table.specs.Content.{TablesContent}
-use Rattle.rs_table.specs.Table.{is_from, prefixes_held, routes_on}
+use Rattle.rs_table.specs.Table.{accepted_on, is_from, prefixes_held, routes_on}
+use Rattle.rs_import.specs.declared.filter.Filter.{Filter}
+use Rattle.rs_choice.specs.Acceptance.{filter_on}
+use Rattle.rs_explain.specs.declared.condition.ConditionKind.{ConditionKind}
 use Rattle.rs_explain.specs.Reasons.{failed_condition, kind_of}
 use Rattle.rs_survey.specs.declared.finding.Finding.{Finding}
-use Rattle.rs_survey.specs.declared.finding.Finding.TheVariants.{Left, Ineligible, Refused, Lost, Best, Removed, Hidden}
+use Rattle.rs_survey.specs.declared.finding.Finding.TheVariants.{Left, Ineligible, Filtered, Refused, Lost, Best}
+use Rattle.rs_survey.specs.declared.finding.Finding.TheVariants.{Removed, Hidden}
 
 -- the step that removes a member of a set: the first at which a member left by the earlier steps beats it
 unfoldable pub removed_at : {M : Type 0} → (M → Standing) → List Step → List M → M → Option Step
@@ -22,11 +26,19 @@ removed_at standing (step ∷ later) set one =
     if list_any (λ other. beats step (standing other) (standing one)) set then Some step
     else removed_at standing later (unbeaten standing step set) one
 
--- the findings for a route by itself: a peer has left it, and it may fail a condition of eligibility
-abbrev pub of_route : Plan → SentRoute → List Finding
-of_route plan route =
-    Left route.peer ∷ option_to_list (option_map (λ condition. Ineligible route.peer condition)
-    (option_map kind_of (failed_condition plan route.peer route.attributes)))
+-- The finding for a route that may be a candidate of nobody: the first condition of eligibility that it fails, or else
+-- the filter that does not take it in.
+abbrev pub unfit : ℕ → Option ConditionKind → Option Filter → Option Finding
+unfit sender failed filter =
+    option_or (option_map (λ condition. Ineligible sender condition) failed)
+    (option_map (λ filter. Filtered sender filter) filter)
+
+-- the findings for a route on a prefix by itself: a peer has left it, and it may be a candidate of nobody
+abbrev pub of_route : Plan → IpPrefix → SentRoute → List Finding
+of_route plan prefix route =
+    Left route.peer ∷ option_to_list (unfit route.peer
+    (option_map kind_of (failed_condition plan route.peer route.attributes))
+    (filter_on plan route.peer prefix route.attributes))
 
 -- the finding for a candidate of a client: the client gets it, or a step removes it
 abbrev pub of_candidate : Plan → List SentRoute → ℕ → SentRoute → List Finding
@@ -35,7 +47,7 @@ of_candidate plan routes client route =
     else Lost client route.peer ∷ option_to_list (option_map (λ step. Removed step)
     (removed_at (standing_of plan) decision_steps (candidates_among plan client routes) route))
 
--- the findings for a route and a client, by all routes on the prefix; none for the client's own route or an
+-- the findings for a route and a client, by all routes on the prefix that are taken in; none for the client's own route or an
 -- ineligible one
 abbrev pub to_client : Plan → List SentRoute → ℕ → SentRoute → List Finding
 to_client plan routes client route =
@@ -46,7 +58,7 @@ to_client plan routes client route =
 unfoldable pub for_client : Plan → List SentRoute → ℕ → List Finding
 for_client plan routes client = flat_map (to_client plan routes client) routes
 
--- the choice if there were one decision for all clients: the one among all eligible routes
+-- the choice if there were one decision for all clients: the one among all eligible routes that are taken in
 abbrev pub shared_choice : Plan → List SentRoute → Option SentRoute
 shared_choice plan routes = choice (standing_of plan) (eligible_among plan routes)
 
@@ -66,14 +78,16 @@ is_hiding plan routes = list_any (is_hidden_from plan routes) (all_clients plan)
 abbrev pub hidden_if : Bool → List Finding
 hidden_if hides = if hides then Hidden ∷ [] else []
 
--- the findings for the routes on one prefix
+-- the findings for the routes on one prefix that are taken in
 unfoldable pub findings_among : Plan → List SentRoute → List Finding
-findings_among plan routes =
-    flat_map (of_route plan) routes ++ (flat_map (for_client plan routes) (all_clients plan)
-    ++ hidden_if (is_hiding plan routes))
+findings_among plan taken =
+    flat_map (for_client plan taken) (all_clients plan) ++ hidden_if (is_hiding plan taken)
 
+-- the findings for all routes on one prefix
 unfoldable pub findings_on : TablesContent → IpPrefix → List Finding
-findings_on tables prefix = findings_among tables.plan (routes_on prefix tables.ribs)
+findings_on tables prefix =
+    flat_map (of_route tables.plan prefix) (routes_on prefix tables.ribs)
+    ++ findings_among tables.plan (accepted_on tables prefix)
 
 -- the findings for all prefixes on which some peer has left a route
 unfoldable pub findings_of : TablesContent → List Finding

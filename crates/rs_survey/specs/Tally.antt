@@ -19,17 +19,17 @@ tally_code =
 abbrev pub tally_view : Inside → TallyContent
 tally_view fields = record { peers = fields.peers; counts = fields.counts.items }
 
--- each digit of a place is below this: it is a peer's number, or that of one of twelve reasons, six steps or three
--- conditions
+-- each digit of a place is below this: it is a peer's number, or that of one of twenty reasons, eight filters, six
+-- steps or three conditions
 abbrev pub digits : ℕ → ℕ
-digits peers = peers + 12
+digits peers = peers + 20
 
 -- the place of a finding's count: its key as a number of three digits
 abbrev pub place_in : ℕ → Key → ℕ
 place_in width key = (key.kind * width + key.first) * width + key.second
 
 abbrev pub room_for : ℕ → ℕ
-room_for width = 8 * width * width
+room_for width = 9 * width * width
 
 -- there is a count for each finding
 pub record HasRoom (fields : Inside) : Type 0 where

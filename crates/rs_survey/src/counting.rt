@@ -1,25 +1,27 @@
 //! Counts the findings on one prefix.
 
-ghost use Rattle.std.specs.Prelude.{◌≡◌, ◌<◌, ◌==◌, IfSome, OnOk, false, length, map};
+ghost use Rattle.std.specs.Prelude.{◌≡◌, ◌<◌, ◌==◌, ℕ, IfSome, OnOk, false, length, map};
 ghost use Rattle.std.specs.List.{All, flat_map};
 ghost use Rattle.std.specs.Option.{option_map, option_map_or};
 ghost use Rattle.rs_choice.specs.Clients.{chosen_for};
 ghost use Rattle.rs_explain.specs.Contenders.{contender_of};
 ghost use Rattle.rs_table.specs.PrefixRoutes.{AreRoutesOf, entry_of};
 ghost use Rattle.rs_table.specs.RouteView.{sent_route_of};
-ghost use Rattle.rs_table.specs.Table.{routes_on};
-ghost use Rattle.rs_survey.specs.Seen.{IsSeen, sent_of_seen};
+ghost use Rattle.rs_table.specs.Table.{accepted_on};
+ghost use Rattle.rs_survey.specs.Findings.{IsKnown};
+ghost use Rattle.rs_survey.specs.Seen.{IsFilteredOn, IsSeen, sent_of_seen};
 ghost use Rattle.rs_survey.specs.Grows.{Grows};
-ghost use Rattle.rs_survey.specs.Summary.{all_clients, findings_on, for_client, of_candidate, of_route, to_client};
+ghost use Rattle.rs_survey.specs.Summary.{all_clients, findings_on, for_client, of_candidate, of_route, to_client, unfit};
 
 use crate::finding::Finding;
 use crate::hidden::{is_hiding, shared_choice};
 use crate::removing::removing_step;
-use crate::seen::{Seen, permits, routes_seen};
+use crate::seen::{Seen, permits, routes_seen, taken_in};
 use crate::tally::Tally;
 use rs_choice::{Candidate, Exchange};
 use rs_explain::Contender;
 use rs_table::{PrefixRoutes, Route, Tables};
+use rs_update::Prefix;
 use std::alloc::{AllocError, Global};
 
 // Counts the findings on a prefix.
@@ -35,9 +37,10 @@ pub(crate) fn count_on(
 {
     let seen = routes_seen(alloc, tables, on)?;
     let plan = tables.plan();
-    count_routes(plan, &seen, tally);
-    count_clients(tables, on, &seen, tally);
-    let shared = shared_choice(alloc, plan, &seen)?;
+    count_routes(plan, on.prefix, &seen, tally);
+    let taken = taken_in(alloc, &seen)?;
+    count_clients(tables, on, &taken, tally);
+    let shared = shared_choice(alloc, plan, &taken)?;
     if is_hiding(tables, on, &shared) {
         tally.add(Finding::Hidden);
     }
@@ -45,27 +48,41 @@ pub(crate) fn count_on(
 }
 
 // Counts what is found of each route by itself.
-fn count_routes(plan: &Exchange, seen: &[Seen], tally: &mut Tally)
+fn count_routes(plan: &Exchange, prefix: Prefix, seen: &[Seen], tally: &mut Tally)
     requires seen { All (IsSeen plan.now) seen.now }
+    requires filtered { All (IsFilteredOn plan.now prefix) seen.now }
     requires peers { tally.old.peers ≡ length plan.now.peers }
-    ensures { Grows tally.old tally.new (flat_map (of_route plan.now) (map sent_of_seen seen.now)) }
+    ensures { Grows tally.old tally.new (flat_map (of_route plan.now prefix) (map sent_of_seen seen.now)) }
 {
     for one in seen {
-        count_route(plan, one, tally);
+        count_route(plan, prefix, one, tally);
     }
 }
 
 // Counts what is found of a route by itself.
-fn count_route(plan: &Exchange, one: &Seen, tally: &mut Tally)
+fn count_route(plan: &Exchange, _prefix: Prefix, one: &Seen, tally: &mut Tally)
     requires seen { IsSeen plan.now one.now }
+    requires filtered { IsFilteredOn plan.now _prefix one.now }
     requires peers { tally.old.peers ≡ length plan.now.peers }
-    ensures { Grows tally.old tally.new (of_route plan.now (sent_of_seen one.now)) }
+    ensures { Grows tally.old tally.new (of_route plan.now _prefix (sent_of_seen one.now)) }
 {
     let _peers = plan.count();
+    tally.add(Finding::Left(one.route.peer));
+    if let Some(finding) = unfit(one) {
+        tally.add(finding);
+    }
+}
+
+// What is found of a route that may be a candidate of nobody.
+fn unfit(one: &Seen) -> Option<Finding>
+    ensures value { result ≡ unfit one.now.route.peer one.now.failed one.now.filter }
+    ensures known { (peers : ℕ) → one.now.route.peer < peers → IfSome result (IsKnown peers) }
+{
     let sender = one.route.peer;
-    tally.add(Finding::Left(sender));
-    if let Some(condition) = one.failed {
-        tally.add(Finding::Ineligible(sender, condition));
+    match (one.failed, one.filter) {
+        (Some(condition), _) => Some(Finding::Ineligible(sender, condition)),
+        (None, Some(filter)) => Some(Finding::Filtered(sender, filter)),
+        (None, None) => None,
     }
 }
 
@@ -73,7 +90,7 @@ fn count_route(plan: &Exchange, one: &Seen, tally: &mut Tally)
 fn count_clients(tables: &Tables, on: &PrefixRoutes, seen: &[Seen], tally: &mut Tally)
     requires routes { AreRoutesOf tables.now (entry_of on.now) }
     requires seen { All (IsSeen tables.now.plan) seen.now }
-    requires same { map sent_of_seen seen.now ≡ routes_on on.now.prefix tables.now.ribs }
+    requires same { map sent_of_seen seen.now ≡ accepted_on tables.now on.now.prefix }
     requires peers { tally.old.peers ≡ length tables.now.plan.peers }
     ensures { Grows tally.old tally.new
         (flat_map (for_client tables.now.plan (map sent_of_seen seen.now)) (all_clients tables.now.plan)) }

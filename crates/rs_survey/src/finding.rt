@@ -5,6 +5,7 @@ ghost use Rattle.rs_survey.specs.Findings.{key_of, reason_number, step_number};
 
 use rs_choice::Step;
 use rs_explain::{ConditionKind, MissingReason};
+use rs_import::Filter;
 
 /// What is counted on a prefix. Peers stand by their numbers.
 #[derive(Clone, Copy, Debug, PartialEq, Eq)]
@@ -13,6 +14,8 @@ pub enum Finding {
     Left(usize),
     /// The route of this peer is not eligible: the first condition that it fails.
     Ineligible(usize, ConditionKind),
+    /// Import policy doesn't take in the eligible route of this peer: the first condition that it fails.
+    Filtered(usize, Filter),
     /// Export policy refuses to this client, which is given first, the eligible route of this sender.
     Refused(usize, usize),
     /// This client, which is given first, gets another route than the candidate of this sender.
@@ -50,6 +53,7 @@ impl Finding {
             Finding::Removed(step) => make_key(5, step_number(step), 0),
             Finding::Hidden => make_key(6, 0, 0),
             Finding::Missing(sender, reason) => make_key(7, sender, reason_number(reason)),
+            Finding::Filtered(sender, filter) => make_key(8, sender, filter as usize),
         }
     }
 }
@@ -65,16 +69,17 @@ fn make_key(kind: usize, first: usize, second: usize) -> Key
     }
 }
 
-// The place of a reason among all: conditions, rules, steps.
+// The place of a reason among all: conditions, filters, rules, steps.
 fn reason_number(reason: MissingReason) -> usize
     ensures { result ≡ reason_number reason }
 {
     match reason {
         MissingReason::Ineligible(condition) => condition as usize,
-        MissingReason::RefusedByName => 3,
-        MissingReason::RefusedByCommunity => 4,
-        MissingReason::RefusedByLargeCommunity => 5,
-        MissingReason::Lost(step) => 6 + step_number(step),
+        MissingReason::Filtered(filter) => 3 + filter as usize,
+        MissingReason::RefusedByName => 11,
+        MissingReason::RefusedByCommunity => 12,
+        MissingReason::RefusedByLargeCommunity => 13,
+        MissingReason::Lost(step) => 14 + step_number(step),
     }
 }
 

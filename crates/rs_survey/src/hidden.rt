@@ -6,7 +6,7 @@ ghost use Rattle.std.specs.Option.{option_map_or};
 ghost use Rattle.rs_choice.specs.Clients.{is_sent_to};
 ghost use Rattle.rs_choice.specs.Decision.{member_at};
 ghost use Rattle.rs_table.specs.PrefixRoutes.{AreRoutesOf, entry_of};
-ghost use Rattle.rs_table.specs.Table.{routes_on};
+ghost use Rattle.rs_table.specs.Table.{accepted_on};
 ghost use Rattle.rs_survey.specs.Seen.{IsSeen, candidate_of_seen, is_open_to, sent_of_seen};
 ghost use Rattle.rs_survey.specs.Summary as spec;
 
@@ -15,7 +15,8 @@ use rs_choice::{Candidate, Exchange, MAX_PEERS};
 use rs_table::{PrefixRoutes, Tables};
 use std::alloc::{AllocError, Global};
 
-// The route that would be chosen if there were one decision for all clients: among all eligible routes.
+// The route that would be chosen if there were one decision for all clients: among all eligible routes that are taken
+// in.
 pub(crate) fn shared_choice<'a>(
     alloc: Global,
     plan: &Exchange,
@@ -63,8 +64,8 @@ pub(crate) fn is_hiding(tables: &Tables, on: &PrefixRoutes, shared: &Option<Cand
     requires known { IfSome shared.now (λ one. one.peer < length tables.now.plan.peers) }
     requires shared { (client : ℕ) → is_open_to tables.now.plan shared.now client
         ≡ option_map_or (is_sent_to tables.now.plan client)
-        (spec.shared_choice tables.now.plan (routes_on on.now.prefix tables.now.ribs)) false }
-    ensures { result ≡ spec.is_hiding tables.now.plan (routes_on on.now.prefix tables.now.ribs) }
+        (spec.shared_choice tables.now.plan (accepted_on tables.now on.now.prefix)) false }
+    ensures { result ≡ spec.is_hiding tables.now.plan (accepted_on tables.now on.now.prefix) }
 {
     let plan = tables.plan();
     let mut hides = false;

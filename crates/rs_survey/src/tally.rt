@@ -12,11 +12,11 @@ use rs_choice::MAX_PEERS;
 use std::alloc::{AllocError, Global};
 use std::marker::Model;
 
-// A digit of a place is below the number of peers and these: there are twelve reasons.
-const MORE: usize = 12;
+// A digit of a place is below the number of peers and these: there are twenty reasons.
+const MORE: usize = 20;
 
 // How many kinds of findings there are.
-const KINDS: usize = 8;
+const KINDS: usize = 9;
 
 /// How often each finding was made. A count stops at the greatest number of 64 bits.
 #[derive(Drop)]

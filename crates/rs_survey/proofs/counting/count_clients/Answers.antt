@@ -1,7 +1,7 @@
 use Rattle.std.proofs.Common.{◌∙◌, ◌<◌, length, map, subst, sym}
 use Rattle.std.specs.Prelude.{IfSome}
 use Rattle.rs_choice.specs.Plan.{Plan}
-use Rattle.rs_table.specs.Table.{routes_on}
+use Rattle.rs_table.specs.Table.{accepted_on}
 use Rattle.rs_survey.specs.Grows.{Grows}
 use Rattle.rs_survey.specs.Seen.{sent_of_seen}
 use Rattle.rs_survey.specs.Summary.{for_client}
@@ -13,7 +13,7 @@ pub contender-best-requires : goal.contender-best-requires
 contender-best-requires c =
     let tables = c.args.tables.now in
     subst (λ (plan : Plan). IfSome c.best.result (λ one. one.peer < length plan.peers)) (sym c.plan-plan.ensures)
-    (best_peer_known tables.plan c.loop-client.client (routes_on c.args.on.now.prefix tables.ribs) c.best.result
+    (best_peer_known tables.plan c.loop-client.client (accepted_on tables c.args.on.now.prefix) c.best.result
     (c.best.ensures ∙ c.requires.routes.bests c.loop-client.client))
 
 pub loop-client-preserved : goal.loop-client-preserved

@@ -8,7 +8,7 @@ use Rattle.rs_survey.proofs.counting.count_routes.Goals as goal
 
 pub loop-one-preserved : goal.loop-one-preserved
 loop-one-preserved c =
-    let found = of_route c.args.plan.now in
+    let found = of_route c.args.plan.now c.args.prefix in
     let within : c.loop-one.one-index < length c.args.seen.now = omega arith in
     grows-more found sent_of_seen c.args.seen.now c.loop-one.one-index c.one-item.result c.args.tally.now c.loop-one.tally
     c.count_route.new.tally within c.loop-one.invariant

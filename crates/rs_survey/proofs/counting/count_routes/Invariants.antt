@@ -8,4 +8,4 @@ use Rattle.rs_survey.proofs.counting.count_routes.Given as goal
 
 -- what is found of the routes so far is counted
 abbrev pub invariant-loop-one : goal.invariant-loop-one
-invariant-loop-one l = Grows l.initial.tally l.tally (flat_map (of_route l.plan) (map sent_of_seen (take l.one-index l.seen)))
+invariant-loop-one l = Grows l.initial.tally l.tally (flat_map (of_route l.plan l.prefix) (map sent_of_seen (take l.one-index l.seen)))

@@ -5,7 +5,7 @@ use Rattle.std.specs.Option.{option_map_or}
 use Rattle.rs_choice.specs.Clients.{chosen_for, is_sent_to}
 use Rattle.rs_choice.specs.Plan.{Plan}
 use Rattle.rs_table.specs.RouteView.{sent_route_of}
-use Rattle.rs_table.specs.Table.{routes_on}
+use Rattle.rs_table.specs.Table.{accepted_on}
 use Rattle.rs_survey.specs.Seen.{is_open_to}
 use Rattle.rs_survey.specs.Summary.{is_hidden_from, shared_choice}
 use Rattle.rs_survey.proofs.GrowthLemmas.{any-number}
@@ -16,7 +16,7 @@ use Rattle.rs_survey.proofs.hidden.is_hiding.Goals.{then-hides, else-hides+then-
 pub loop-client-preserved : goal.loop-client-preserved
 loop-client-preserved c =
     let plan = c.args.tables.now.plan in
-    let routes = routes_on c.args.on.now.prefix c.args.tables.now.ribs in
+    let routes = accepted_on c.args.tables.now c.args.on.now.prefix in
     let n = c.loop-client.client in
     let hidden = is_hidden_from plan routes in
     let shared = option_map_or (is_sent_to plan n) (shared_choice plan routes) false in

@@ -6,7 +6,7 @@ use Rattle.rs_choice.specs.Decision.{SentRoute}
 use Rattle.rs_choice.specs.Plan.{Plan}
 use Rattle.rs_table.specs.Table.{route_from}
 use Rattle.rs_survey.specs.declared.seen.Seen.{Seen}
-use Rattle.rs_survey.specs.Seen.{IsSeen, sent_of_seen}
+use Rattle.rs_survey.specs.Seen.{IsFilteredOn, IsSeen, sent_of_seen}
 use Rattle.rs_survey.proofs.SeenLemmas.{next_listed, routes_from, routes_from-more}
 use Rattle.rs_survey.proofs.seen.routes_seen.Goals as goal
 use Rattle.rs_survey.proofs.seen.routes_seen.Goals.{in-Some+in_ok-push, in_default}
@@ -34,6 +34,8 @@ loop-peer-preserved c =
                 (more ∙ ap (λ (found : Option SentRoute). cons_option found rest) (sym found)));
             seen = rw grown (All-push (IsSeen tables.plan) items one c.loop-peer.invariant.seen
                 (subst (λ (plan : Plan). IsSeen plan one) w.plan.ensures w.route_seen.ensures.seen));
+            filtered = rw grown (All-push (IsFilteredOn tables.plan prefix) items one c.loop-peer.invariant.filtered
+                (subst (λ (plan : Plan). IsFilteredOn plan prefix one) w.plan.ensures w.route_seen.ensures.filtered));
             bound = rw grown len;
           }
       | in_default w ↦
@@ -43,6 +45,7 @@ loop-peer-preserved c =
             listed = rw same (ap (λ later. map sent_of_seen items ++ later)
                 (sym (more ∙ ap (λ (found : Option SentRoute). cons_option found rest) (sym none))) ∙ c.loop-peer.invariant.listed);
             seen = rw same c.loop-peer.invariant.seen;
+            filtered = rw same c.loop-peer.invariant.filtered;
             bound = rw same (omega (arith, c.loop-peer.invariant.bound));
           }
     ]
