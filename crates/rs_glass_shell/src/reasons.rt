@@ -8,11 +8,15 @@ use rs_query::reason_names::{
     PREFERENCE, REFUSED, REFUSED_BY_COMMUNITY, REFUSED_BY_NAME, SERVER_ADDRESS_AS_NEXT_HOP,
     SERVER_AS_IN_PATH,
 };
+use rs_import::Filter;
 use rs_session::Reason;
 use rs_update::Origin;
 use std::alloc::{AllocError, Global};
 use std::fmt;
 use std::net::Ipv4Addr;
+
+// The name of the answer that import policy doesn't take a route in.
+const FILTERED: &str = "filtered";
 
 /// The name of an answer.
 pub fn answer_name(explanation: &Explanation) -> &'static str {
@@ -20,6 +24,7 @@ pub fn answer_name(explanation: &Explanation) -> &'static str {
         Explanation::Own => "own",
         Explanation::Absent => "absent",
         Explanation::Ineligible(_) => INELIGIBLE,
+        Explanation::Filtered(_) => FILTERED,
         Explanation::Refused(_) => REFUSED,
         Explanation::Best(_) => "best",
         Explanation::Lost(_) => LOST,
@@ -30,6 +35,7 @@ pub fn answer_name(explanation: &Explanation) -> &'static str {
 pub fn reason_answer(reason: MissingReason) -> &'static str {
     match reason {
         MissingReason::Ineligible(_) => INELIGIBLE,
+        MissingReason::Filtered(_) => FILTERED,
         MissingReason::RefusedByName => REFUSED,
         MissingReason::RefusedByCommunity => REFUSED,
         MissingReason::RefusedByLargeCommunity => REFUSED,
@@ -43,10 +49,25 @@ pub fn reason_key(reason: MissingReason) -> &'static str {
         MissingReason::Ineligible(ConditionKind::OwnAs) => SERVER_AS_IN_PATH,
         MissingReason::Ineligible(ConditionKind::ServerAsNextHop) => SERVER_ADDRESS_AS_NEXT_HOP,
         MissingReason::Ineligible(ConditionKind::NextHopOffExchange) => NEXT_HOP_OFF_EXCHANGE,
+        MissingReason::Filtered(filter) => filter_key(filter),
         MissingReason::RefusedByName => REFUSED_BY_NAME,
         MissingReason::RefusedByCommunity => REFUSED_BY_COMMUNITY,
         MissingReason::RefusedByLargeCommunity => REFUSED_BY_COMMUNITY,
         MissingReason::Lost(step) => step_key(step),
+    }
+}
+
+/// The key of a filter of import policy.
+pub fn filter_key(filter: Filter) -> &'static str {
+    match filter {
+        Filter::PrefixLength => "prefix_length",
+        Filter::RefusedPrefix => "refused_prefix",
+        Filter::PathLengthLimit => "path_length_limit",
+        Filter::RefusedAs => "refused_as",
+        Filter::FirstAs => "first_as",
+        Filter::PrefixList => "prefix_list",
+        Filter::OriginAs => "origin_as",
+        Filter::RpkiInvalid => "rpki_invalid",
     }
 }
 
@@ -135,6 +156,7 @@ impl fmt::Display for Because<'_> {
         let plan = self.plan;
         match self.explanation {
             Explanation::Ineligible(condition) => write_condition(f, plan, *condition),
+            Explanation::Filtered(filter) => f.write_str(filter_text(*filter)),
             Explanation::Refused(Refusal::ByName) => {
                 let (client, peer) = (name_at(plan, self.client), name_at(plan, self.peer));
                 write!(f, "{client} refuses routes from {peer}")
@@ -150,6 +172,20 @@ impl fmt::Display for Because<'_> {
             Explanation::Lost(removal) => write_removal(f, plan, removal),
             _ => Ok(()),
         }
+    }
+}
+
+// What a filter of import policy finds wrong with a route.
+fn filter_text(filter: Filter) -> &'static str {
+    match filter {
+        Filter::PrefixLength => "prefix length",
+        Filter::RefusedPrefix => "prefix that is refused",
+        Filter::PathLengthLimit => "AS_PATH too long",
+        Filter::RefusedAs => "AS number that is refused",
+        Filter::FirstAs => "first AS",
+        Filter::PrefixList => "not in the prefix list",
+        Filter::OriginAs => "origin AS not in the list",
+        Filter::RpkiInvalid => "RPKI invalid",
     }
 }
 
