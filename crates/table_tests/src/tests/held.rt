@@ -5,16 +5,23 @@
 use super::exchanges::{attributes, exchange, peer_of};
 use super::{decisions, plans, routes};
 use rs_choice::{Exchange, HeldRoute};
+use rs_update::Prefix;
 use std::alloc::Global;
 
 // The time at which each route came.
 const TIME: u32 = 100;
 
+// The prefix on which each route came, 10.0.0.0/8.
+const ADDRESS: u32 = 167772160;
+
+const LEN: u8 = 8;
+
 // A route as it is stored.
 fn hold(alloc: Global, exchange: &Exchange, text: &str) -> Option<HeldRoute> {
     let (name, words) = text.trim().split_once(' ')?;
     let peer = peer_of(exchange, name)?;
-    Some(exchange.hold(peer, TIME, attributes(alloc, words)?))
+    let prefix = Prefix::new(ADDRESS, LEN)?;
+    Some(exchange.hold(peer, prefix, TIME, attributes(alloc, words)?))
 }
 
 // The routes of a text as they are stored, in their order.

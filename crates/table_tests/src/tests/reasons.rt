@@ -16,6 +16,7 @@ fn answer(explanation: &Explanation) -> Why {
         Explanation::Own => Why::Own,
         Explanation::Absent => Why::Absent,
         Explanation::Ineligible(_) => Why::Ineligible,
+        Explanation::Filtered(_) => Why::Filtered,
         Explanation::Refused(_) => Why::Refused,
         Explanation::Best(_) => Why::Best,
         Explanation::Lost(_) => Why::Lost,

@@ -17,7 +17,7 @@ pub fn shown(alloc: Global, exchange: &Exchange, held: &HeldRoute) -> Option<Str
         attributes: &held.attributes,
     });
     let (time, candidacy, path_length) = (held.time, held.candidacy, held.path_length);
-    let (is_eligible, is_open) = (candidacy.is_eligible(), candidacy.is_open());
+    let (is_eligible, is_open) = (candidacy.is_candidate(), candidacy.is_open());
     let (neighbour, med) = (standing.neighbour, standing.med);
     format!(in alloc;
         "{peer} {time} {candidacy:?} {is_eligible} {is_open} {path_length} {neighbour} {med}"
