@@ -78,8 +78,11 @@ route_peer peer (Some left) route is = let same : route ≡ sent_by peer left = 
 pub none_refused : (plan : Plan) (client : ℕ) (prefix : IpPrefix) (route : SentRoute)
     → is_permitted plan client route.peer route.attributes ≡ false → None ≡ contender_if plan client prefix (Some route)
 none_refused plan client prefix route refuses =
-    rw (refuses, and_right (accepts plan route.peer prefix route.attributes) false refl,
-    and_right (is_eligible plan route.peer route.attributes) false refl) refl
+    rw (
+      refuses,
+      and_right (accepts plan route.peer prefix route.attributes) false refl,
+      and_right (is_eligible plan route.peer route.attributes) false refl,
+    ) refl
 
 -- and neither is one that import policy does not take in
 pub none_filtered : (plan : Plan) (client : ℕ) (prefix : IpPrefix) (route : SentRoute)

@@ -39,12 +39,7 @@ pub(crate) fn contender_of(plan: &Exchange, route: &Route) -> Contender
 }
 
 // A route, if it is a candidate of a client.
-fn candidate_of(
-    plan: &Exchange,
-    client: usize,
-    prefix: Prefix,
-    route: &Route,
-) -> Option<Contender>
+fn candidate_of(plan: &Exchange, client: usize, prefix: Prefix, route: &Route) -> Option<Contender>
     requires client_known { client < length plan.now.peers }
     requires peer_known { route.now.peer < length plan.now.peers }
     ensures value { result ≡ contender_if plan.now client prefix (Some (sent_route_of route.now)) }
