@@ -25,8 +25,7 @@ eligible_among plan routes = filter (λ sent. is_eligible plan sent.peer sent.at
 abbrev pub candidates_among : Plan → ℕ → List SentRoute → List SentRoute
 candidates_among plan client routes = filter (is_sent_to plan client) (eligible_among plan routes)
 
--- a client may get a route on a prefix: another peer sent it, import policy takes it in, it is eligible, and export
--- policy permits it to the client
+-- a client may get a route on a prefix: it is another peer's, taken in, eligible, and permitted to the client
 pub record MayGet (plan : Plan) (prefix : IpPrefix) (client : ℕ) (sent : SentRoute) : Type 0 where
   pub receiver : Peer
   pub sender : Peer

@@ -7,8 +7,8 @@ ghost use Rattle.rs_choice.specs.Laws.{OpenPolicySharesChoice};
 ghost use Rattle.rs_choice.specs.Laws.{OthersAreNoMatter, OutdoneIsNoMatter, PeersHaveOwnAddresses, PolicyIgnoresOrder};
 ghost use Rattle.rs_choice.specs.Laws.{RemovedIsNoMatter, UncountedAreNoMatter};
 
-/// The candidates of a client for a prefix are the eligible routes of other peers that import policy takes in and that
-/// export policy permits to it (RFC 4271, sections 9.1.1 and 9.1.2; RFC 7947, section 2.3).
+/// The candidates of a client for a prefix are eligible routes of other peers (RFC 4271, section 9.1.2). Import policy
+/// takes them in (section 9.1.1), and export policy permits them to the client (RFC 7947, section 2.3).
 pub fn candidates_may_be_got()
     ensures { CandidatesMayBeGot }
 {}

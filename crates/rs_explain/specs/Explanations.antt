@@ -19,8 +19,8 @@ use Rattle.rs_explain.specs.Contenders.{contender_of, contender_from, contenders
 use Rattle.rs_explain.specs.Reasons.{failed_condition, refusal_of}
 use Rattle.rs_explain.specs.Removals.{IsRemoval}
 
--- why a route is no candidate: the first condition of eligibility that it fails, or else the filter that does not take
--- it in, or else the rule that refuses it; None if it is a candidate
+-- Why a route is no candidate; None if it is one. The first that applies counts: a condition of eligibility that it
+-- fails, a filter that does not take it in, a rule that refuses it.
 abbrev pub reason_of : Plan → ℕ → ℕ → IpPrefix → Option SentRoute → Option Explanation
 reason_of plan client peer prefix None = Some Absent
 reason_of plan client peer prefix (Some route) =

@@ -93,8 +93,9 @@ abbrev pub Test : Type 0
 Test = Bool × Filter
 
 -- The tests of a route in their order, for a server and a sender of these AS numbers:
--- its prefix length, prefixes that are refused, the length of AS_PATH, AS numbers that are refused, the first AS, the
--- sender's prefix list, the sender's list of origin ASes, and RPKI.
+-- - Those of all peers: its prefix length, refused prefixes, the length of AS_PATH, refused AS numbers, the first AS.
+-- - Those by the sender's lists: of prefixes, and of origin ASes.
+-- - Its validity by RPKI.
 abbrev pub import_tests : ImportRules → PeerImport → ℕ → ℕ → IpPrefix → PathAttributes → List Test
 import_tests rules peer own_as sender_as prefix attributes =
     (not (is_len_taken rules prefix.len), filters.PrefixLength)

@@ -170,4 +170,7 @@ setup_once keys plan other files others h k =
     found_once IsServer server_table_once (get_member (codes "server") keys) _ _ h.server k.server in
     let both : (plan.peers, files) ≡ (other.peers, others) =
     default_once ArePeersOf peers_of_once (get_member (codes "peer") keys) _ _ _ _ refl h.peers k.peers in
-    (λ i. record { local = (server i).0; peers = (both i).0; large_communities = (server i).1 }, λ i. (both i).1)
+    let import : plan.import ≡ other.import = h.import ∙ sym k.import in (
+      λ i. record { local = (server i).0; peers = (both i).0; large_communities = (server i).1; import = import i },
+      λ i. (both i).1,
+    )

@@ -2,6 +2,7 @@
 -- configuration to the implementation).
 use Rattle.std.specs.Prelude.{◌≡◌, ℕ, Bool, false, List, [], ◌∷◌, codes, None}
 use Rattle.toml.specs.Data.{Data, table, array, Items, no_items, item, Members}
+use Rattle.rs_choice.specs.Import.{no_import}
 use Rattle.rs_choice.specs.Plan.{Peer, Plan}
 use Rattle.rs_choice.specs.declared.plan.Local.{Local}
 use Rattle.rs_setup.specs.Values.{HasOnly, IsAddress, IsBoolean, IsSomeSubnet, IsText, IsTexts, IsWholeNumber}
@@ -66,8 +67,9 @@ abbrev pub ArePeersOf : Data → List Peer × List (List ℕ) → Type 0
 ArePeersOf value (peers, files) = (values : Items) × (value ≡ array values) × ArePeers values peers files
 
 -- What the table of a configuration sets up: the plan of the exchange, and the path of each peer's recorded file, in
--- the order of the peers.
+-- the order of the peers. Import policy asks nothing.
 pub record IsSetup (keys : Members) (plan : Plan) (files : List (List ℕ)) : Type 0 where
   pub known : HasOnly top_keys keys
   pub server : Needs keys (codes "server") IsServer (plan.local, plan.large_communities)
   pub peers : MayHave keys (codes "peer") ArePeersOf ([], []) (plan.peers, files)
+  pub import : plan.import ≡ no_import
