@@ -5,8 +5,9 @@
 //! with a colon has three columns: what is asked and of which case, what is given, and the answer.
 //!
 //! The first tests are of plans and single routes (`plans`, `routes`), and of the choice among routes (`decisions`).
-//! Then come the tables of clients (`clients`, `tables`, `random_changes`, `refusals`, `parts`). Then comes why a
-//! client has a route (`reasons`, `last_said`). The last ones are of dumps (`dumps`, `writers`, `side_by_side`).
+//! Then come the tables of clients (`clients`, `tables`, `random_changes`, `refusals`, `parts`), and what import policy
+//! leaves them (`import`). Then comes why a client has a route (`reasons`, `last_said`). The last ones are of dumps
+//! (`dumps`, `writers`, `side_by_side`).
 
 mod changes;
 mod clients;
@@ -14,6 +15,7 @@ mod decisions;
 mod dumps;
 mod exchanges;
 mod held;
+mod import;
 mod last_said;
 mod parts;
 mod plans;
@@ -66,6 +68,8 @@ fn answer(
     match kind {
         "fault" => plans::fault_of(alloc, given),
         "merged" => parts::merged(alloc, plan, given),
+        "gathered" => refusals::settled(alloc, (plan, given), 2),
+        "filter" | "validity" | "numbers" | "lists" => import::answer(alloc, plan, kind, given),
         "told" => reasons::told(alloc, plan, given, wanted),
         "said" => last_said::last_said(alloc, given),
         _ => held::answer(alloc, plan, kind, given),

@@ -2,11 +2,13 @@
 //!
 //! An exchange is the server's AS and its subnet, if it has one, and behind each semicolon a peer: its name, AS,
 //! address, BGP Identifier and preference, which is 100 if none stands, and the names from which it refuses routes.
-//! Behind the subnet stands `large` if large communities count. The server's address is 192.0.2.1. The attributes of a
-//! route are words, which WORDS spells.
+//! Behind the subnet stands `large` if large communities count. Behind the last peer stand `import` and the import
+//! policy, if there is one (module `import`). The server's address is 192.0.2.1. The attributes of a route are words,
+//! which WORDS spells.
 
 ghost use Rattle.std.specs.Prelude.{◌<◌, IfSome, length};
 
+use super::import::policy;
 use rs_choice::{Exchange, Local, PeerSpec, PlanFault};
 use rs_update::{Attributes, Prefix};
 use std::alloc::Global;
@@ -28,10 +30,18 @@ no-path = 400200
 64503 = 400206 0201 0000FBF7
 64501-64500 = 40020A 0202 0000FBF5 0000FBF4
 64501-{64500} = 40020C 0201 0000FBF5 0101 0000FBF4
+64501-{65010} = 40020C 0201 0000FBF5 0101 0000FDF2
+64501-65009 = 40020A 0202 0000FBF5 0000FDF1
 64501-65010 = 40020A 0202 0000FBF5 0000FDF2
+64501-65011 = 40020A 0202 0000FBF5 0000FDF3
+64501-65012 = 40020A 0202 0000FBF5 0000FDF4
+65010-64501 = 40020A 0202 0000FDF2 0000FBF5
 64502-65010 = 40020A 0202 0000FBF6 0000FDF2
 64503-65010 = 40020A 0202 0000FBF7 0000FDF2
+64501-65010-65011 = 40020E 0203 0000FBF5 0000FDF2 0000FDF3
 64501-65010-65011-65012 = 400212 0204 0000FBF5 0000FDF2 0000FDF3 0000FDF4
+{64501}-65010 = 40020C 0101 0000FBF5 0201 0000FDF2
+64501-{65010,65011}-65012 = 400216 0201 0000FBF5 0102 0000FDF2 0000FDF3 0201 0000FDF4
 {65010,65011}-65013 = 400210 0102 0000FDF2 0000FDF3 0201 0000FDF5
 {65010,65011,65012}-65013-65014 = 400218 0103 0000FDF2 0000FDF3 0000FDF4 0202 0000FDF5 0000FDF6
 
@@ -196,7 +206,10 @@ fn counts_large_communities(text: &str) -> bool {
 
 /// The exchange that a text describes.
 pub fn exchange(alloc: Global, text: &str) -> Option<Arc<Exchange>> {
-    Arc::new(alloc, judged(alloc, text)?.ok()?).ok()
+    let (plan, asked) = text.split_once(" import ").unwrap_or((text, ""));
+    let import = policy(alloc, asked)?;
+    let exchange = judged(alloc, plan)?.ok()?;
+    Arc::new(alloc, exchange.with_import(import)).ok()
 }
 
 /// The number of the peer of a name.

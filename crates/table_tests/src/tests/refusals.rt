@@ -112,20 +112,20 @@ fn gather(alloc: Global, plan: &Exchange, gathering: &mut Gathering, text: &str)
     gathering.receive(peer, word).ok()
 }
 
-// Gathers those changes, in lists that are compacted once they have so many entries. None if memory is refused.
-fn gathered(alloc: Global, plan: &Arc<Exchange>, few: usize) -> Option<Gathering> {
+// Gathers changes, in lists that are compacted once they have so many entries. None if memory is refused.
+fn gathered(alloc: Global, plan: &Arc<Exchange>, changes: &str, few: usize) -> Option<Gathering> {
     let tables = Tables::new(alloc, plan.clone().ok()?).ok()?;
     let mut gathering = Gathering::new(tables, few).ok()?;
-    for text in GATHERED.split(';') {
+    for text in changes.split(';') {
         gather(alloc, plan, &mut gathering, text)?;
     }
     Some(gathering)
 }
 
-// The tables of all clients that are made of them. None if memory is refused.
-fn settled(alloc: Global, few: usize) -> Option<String> {
-    let plan = exchange(alloc, FOUR_PEERS)?;
-    let tables = gathered(alloc, &plan, few)?.settle().ok()?;
+/// The tables of all clients of an exchange that are made of gathered changes. None if memory is refused.
+pub fn settled(alloc: Global, (plan, changes): (&str, &str), few: usize) -> Option<String> {
+    let plan = exchange(alloc, plan)?;
+    let tables = gathered(alloc, &plan, changes, few)?.settle().ok()?;
     all_tables(alloc, &tables)
 }
 
@@ -134,8 +134,9 @@ fn settled(alloc: Global, few: usize) -> Option<String> {
 fn gathered_changes_are_refused_memory_or_leave_the_right_tables(
     rt: HostRuntime,
 ) -> Result<(), Fail> {
+    let all = (FOUR_PEERS, GATHERED);
     for few in [2, 64] {
-        let found = settled(rt.alloc(), few).or_else(|| settled(rt.alloc(), few));
+        let found = settled(rt.alloc(), all, few).or_else(|| settled(rt.alloc(), all, few));
         check(found, SETTLED, ("gathered", GATHERED))?;
     }
     Ok(())
