@@ -1,1 +1,4 @@
+pub mod CsvLemmas
+pub mod LineLemmas
+pub mod MarkLemmas
 pub mod TextLemmas

@@ -5,12 +5,18 @@
 //! A call that allocates fails if memory is refused.
 #![tactic(auto)]
 
+mod csv_vrps;
 mod cuts;
+mod fault;
+mod lines;
 mod numbers;
+mod octets;
 mod patterns;
 mod prefixes;
 mod ranges;
+mod reasons;
 
+pub use fault::ListFault;
 pub use numbers::as_number;
 pub use patterns::read_pattern;
 pub use prefixes::read_prefix;

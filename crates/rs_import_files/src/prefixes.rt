@@ -17,6 +17,17 @@ pub fn read_prefix(text: &str) -> Option<Prefix>
     exact_prefix(dotted_address(address)?, length(len)?)
 }
 
+// Whether a text is a prefix but for its host bits.
+pub(crate) fn has_host_bits(text: &str) -> bool {
+    let Some((address, len)) = cut_at(text, '/') else {
+        return false;
+    };
+    match (dotted_address(address), length(len)) {
+        (Some(address), Some(len)) => exact_prefix(address, len).is_none(),
+        _ => false,
+    }
+}
+
 // The address, in host order, that a text writes with dots.
 pub(crate) fn dotted_address(text: &str) -> Option<u32>
     ensures { IfSome result (IsDottedAddress text.now) }
