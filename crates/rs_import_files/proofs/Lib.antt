@@ -1,0 +1,5 @@
+pub mod CsvLemmas
+pub mod LineLemmas
+pub mod MarkLemmas
+pub mod RowLemmas
+pub mod TextLemmas

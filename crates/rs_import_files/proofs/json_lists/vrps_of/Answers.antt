@@ -1,0 +1,20 @@
+use Rattle.json.specs.Value.{value_view}
+use Rattle.rs_import_files.specs.JsonRows.{IsVrpRow, counts}
+use Rattle.rs_import_files.proofs.RowLemmas.{row_kept, row_passed}
+use Rattle.rs_import_files.proofs.json_lists.vrps_of.Goals as goal
+use Rattle.rs_import_files.proofs.json_lists.vrps_of.Goals.{in-Some+in_ok-push, in_default}
+
+pub loop-index-preserved : goal.loop-index-preserved
+loop-index-preserved c =
+    let read = rw c.in_ok-vrp.ensures at c.vrp_of.ensures in
+    elim c.match-branch-2.branch [
+      | in-Some+in_ok-push w ↦
+          let vrp = rw w.in-Some.is at read in
+          rw (w.vrps-is, w.in_ok-push.ensures.items)
+          (row_kept value_view IsVrpRow counts c.args.rows.now c.loop-index.index c.index-rows-index.result c.loop-index.vrps.items w.in-Some.vrp
+          c.loop-index-test.true c.index-rows-index.is vrp.0 c.loop-index.invariant vrp.1)
+      | in_default w ↦
+          rw w.vrps-is
+          (row_passed value_view IsVrpRow counts c.args.rows.now c.loop-index.index c.index-rows-index.result c.loop-index.vrps.items
+          c.loop-index-test.true c.index-rows-index.is (rw w.in_default.is at read) c.loop-index.invariant)
+    ]

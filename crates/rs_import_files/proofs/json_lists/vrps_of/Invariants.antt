@@ -1,0 +1,9 @@
+use Rattle.std.proofs.Common.{map, take}
+use Rattle.std.specs.List.{AllZip, filter}
+use Rattle.json.specs.Value.{value_view}
+use Rattle.rs_import_files.specs.JsonRows.{IsVrpRow, counts}
+use Rattle.rs_import_files.proofs.json_lists.vrps_of.Given as goal
+
+-- the entries so far are those of the rows so far
+abbrev pub invariant-loop-index : goal.invariant-loop-index
+invariant-loop-index l = AllZip IsVrpRow (filter counts (map value_view (take l.index l.rows))) l.vrps.items

@@ -1,0 +1,158 @@
+//! VRPs as records of CSV: titles, and then an AS number, a prefix and a maximum length in each record.
+
+ghost use Rattle.std.specs.Prelude.{◌≡◌, ℕ, List, [], ◌∷◌, IfOk, MatchOption, Some, true, false};
+ghost use Rattle.csv.specs.Reading.{strip_bom};
+ghost use Rattle.csv.specs.Records.{field_at, fields_of};
+ghost use Rattle.rs_import_files.specs.Csv.{AreRecordsOf, AreTitles, AreVrps, IsCsvOfVrps, IsVrpRecord, has_colon, is_counted};
+ghost use Rattle.rs_import_files.specs.Rows.{Goes, HasRead};
+
+use crate::fault::{Flaw, ListFault};
+use crate::reasons::{need_length, need_number, need_prefix, need_vrp};
+use csv::{ErrorKind, Reader, ReaderBuilder, StringRecord};
+use rs_import::Vrp;
+use std::alloc::Global;
+
+// The VRPs that octets of CSV give.
+pub(crate) fn csv_vrps(alloc: Global, octets: &[u8]) -> Result<Vec<Vrp>, ListFault>
+    ensures { IfOk result (λ vrps. IsCsvOfVrps (strip_bom octets.now) vrps.items) }
+{
+    let mut reader = reader_of(alloc, octets);
+    let mut row = StringRecord::new(alloc);
+    vrps_of(alloc, &mut reader, &mut row)
+}
+
+// The VRPs of a reader at the front of a text.
+fn vrps_of(
+    alloc: Global,
+    reader: &mut Reader<&[u8]>,
+    row: &mut StringRecord,
+) -> Result<Vec<Vrp>, ListFault>
+    ensures { IfOk result (λ vrps. (text : List ℕ) → HasRead text [] reader.old → IsCsvOfVrps text vrps.items) }
+{
+    if !next_row(alloc, reader, row)? {
+        return Ok(Vec::new(alloc));
+    }
+    need_titles(alloc, row)?;
+    vrps_below(alloc, reader, row)
+}
+
+// The VRPs that are left behind the titles.
+fn vrps_below(
+    alloc: Global,
+    reader: &mut Reader<&[u8]>,
+    row: &mut StringRecord,
+) -> Result<Vec<Vrp>, ListFault>
+    ensures { IfOk result (λ vrps. (text : List ℕ) (titles : List (List ℕ)) → HasRead text (titles ∷ []) reader.old
+        → (rows : List (List (List ℕ))) × AreRecordsOf text (titles ∷ rows) × AreVrps rows vrps.items) }
+{
+    let mut vrps = Vec::new(alloc);
+    for _turn in 0..u32::MAX {
+        if !next_row(alloc, reader, row)? {
+            return Ok(vrps);
+        }
+        if let Some(vrp) = vrp_on_line(alloc, row)? {
+            vrps.push(vrp)?;
+        }
+    }
+    Err(ListFault::TooMany)
+}
+
+// The reader of some octets. Records may be of any length.
+fn reader_of(alloc: Global, octets: &[u8]) -> Reader<&[u8]>
+    ensures { HasRead (strip_bom octets.now) [] result }
+{
+    ReaderBuilder::new()
+        .has_headers(false)
+        .flexible(true)
+        .from_reader(alloc, octets)
+}
+
+// Reads the next row, or answers that there is none left.
+fn next_row(
+    alloc: Global,
+    reader: &mut Reader<&[u8]>,
+    row: &mut StringRecord,
+) -> Result<bool, ListFault>
+    ensures { IfOk result (λ found. (text : List ℕ) (records : List (List (List ℕ))) → HasRead text records reader.old
+        → Goes text records (fields_of row.new) reader.new found) }
+{
+    match reader.read_record(row) {
+        Ok(found) => Ok(found),
+        Err(error) => Err(not_text(alloc, reader.position().line() as usize, error.kind())),
+    }
+}
+
+// The fault of a line that isn't read.
+fn not_text(alloc: Global, line: usize, kind: &ErrorKind) -> ListFault {
+    match kind {
+        ErrorKind::Utf8 { .. } => match String::from_str(alloc, "the octets are not UTF-8") {
+            Ok(reason) => ListFault::Line(line, reason),
+            Err(_) => ListFault::Memory,
+        },
+        _ => ListFault::Memory,
+    }
+}
+
+// Tests that the first title is ASN.
+fn need_titles(alloc: Global, row: &StringRecord) -> Result<(), ListFault>
+    ensures { IfOk result (λ _. AreTitles (fields_of row.now)) }
+{
+    match row.get(0) {
+        Some("ASN") => Ok(()),
+        _ => Err(ListFault::Line(
+            line_of(row),
+            String::from_str(alloc, "the first title is not ASN")?,
+        )),
+    }
+}
+
+// The VRP of a record, or none if its prefix is of IPv6.
+fn vrp_on_line(alloc: Global, row: &StringRecord) -> Result<Option<Vrp>, ListFault>
+    ensures { IfOk result (λ found. MatchOption found (is_counted (fields_of row.now) ≡ false)
+        (λ vrp. (is_counted (fields_of row.now) ≡ true) × IsVrpRecord (fields_of row.now) vrp)) }
+{
+    match vrp_of(alloc, row) {
+        Ok(found) => Ok(found),
+        Err(flaw) => Err(flaw.on_line(line_of(row))),
+    }
+}
+
+// The line of a record, counted from 1.
+fn line_of(row: &StringRecord) -> usize {
+    match row.position() {
+        Some(position) => position.line() as usize,
+        None => 0,
+    }
+}
+
+// The VRP of a record, or none if its prefix is of IPv6.
+fn vrp_of(alloc: Global, row: &StringRecord) -> Result<Option<Vrp>, Flaw>
+    ensures { IfOk result (λ found. MatchOption found (is_counted (fields_of row.now) ≡ false)
+        (λ vrp. (is_counted (fields_of row.now) ≡ true) × IsVrpRecord (fields_of row.now) vrp)) }
+{
+    let prefix = need_field(alloc, row, 1)?;
+    if has_colon(prefix) {
+        return Ok(None);
+    }
+    let asn = need_number(alloc, need_field(alloc, row, 0)?)?;
+    let prefix = need_prefix(alloc, prefix)?;
+    let max_len = need_length(alloc, need_field(alloc, row, 2)?)?;
+    Ok(Some(need_vrp(alloc, asn, prefix, max_len)?))
+}
+
+// The field at a place, which must be there.
+fn need_field<'a>(alloc: Global, row: &'a StringRecord, place: usize) -> Result<&'a str, Flaw>
+    ensures { IfOk result (λ field. field_at (fields_of row.now) place ≡ Some field.now) }
+{
+    match row.get(place) {
+        Some(field) => Ok(field),
+        None => Err(Flaw::Reason(String::from_str(alloc, "there are fewer than three fields")?)),
+    }
+}
+
+// Whether a text has a colon.
+pub(crate) fn has_colon(text: &str) -> bool
+    ensures { result ≡ has_colon text.now }
+{
+    text.as_bytes().iter().any(|octet| *octet == b':')
+}
