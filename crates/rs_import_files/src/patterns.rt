@@ -9,8 +9,8 @@ use crate::prefixes::read_prefix;
 use rs_import::Pattern;
 use rs_types::Prefix;
 
-/// The pattern that a text is: a prefix; a prefix and `+`, which is the prefix and all more specific ones; or a prefix
-/// and `{n,m}`, which is the prefixes of n to m bits inside it.
+/// The pattern that a text is. It is a prefix alone, or a prefix and `+`: all more specific ones match, too. Or it is a
+/// prefix and `{n,m}`: the prefixes of n to m bits inside it match.
 pub fn read_pattern(text: &str) -> Option<Pattern>
     ensures { IfSome result (IsPattern text.now) }
 {
