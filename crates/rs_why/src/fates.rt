@@ -5,7 +5,7 @@ use crate::lives::Life;
 use rs_choice::Exchange;
 use rs_explain::failed_condition;
 use rs_glass::Event;
-use rs_update::Attributes;
+use rs_update::{Attributes, Prefix};
 
 /// What becomes of a route at a client.
 #[derive(Clone, Copy, Debug, PartialEq, Eq)]
@@ -16,6 +16,8 @@ pub(crate) enum Fate {
     Own,
     /// It is not eligible (RFC 4271, sections 6.3 and 9.1.2).
     Ineligible,
+    /// Import policy does not take it in (RFC 4271, section 9.1.1).
+    Filtered,
     /// Export policy refuses it to the client (RFC 7947, section 2.3).
     Refused,
     /// It is a candidate, and the decision process chose another one.
@@ -39,7 +41,8 @@ impl Fate {
         match canvas.history.events.get(life.announced) {
             Some(gets) => match &gets.event {
                 Event::Announced(attributes) => {
-                    Fate::unchosen(canvas.view.plan, client, peer, attributes)
+                    let prefix = canvas.history.prefix;
+                    Fate::unchosen(canvas.view.plan, client, peer, prefix, attributes)
                 }
                 _ => Fate::Lost,
             },
@@ -48,12 +51,21 @@ impl Fate {
     }
 
     // That of another peer's route that the client does not get.
-    fn unchosen(plan: &Exchange, client: usize, peer: usize, attributes: &Attributes) -> Fate {
+    fn unchosen(
+        plan: &Exchange,
+        client: usize,
+        peer: usize,
+        prefix: Prefix,
+        attributes: &Attributes,
+    ) -> Fate {
         if client >= plan.count() || peer >= plan.count() {
             return Fate::Lost;
         }
         if failed_condition(plan, peer, attributes).is_some() {
             return Fate::Ineligible;
+        }
+        if !plan.accepts(peer, prefix, attributes) {
+            return Fate::Filtered;
         }
         if plan.permits(client, peer, attributes) {
             Fate::Lost
@@ -68,6 +80,7 @@ impl Fate {
             Fate::Unasked => None,
             Fate::Own => Some("does not get its own route"),
             Fate::Ineligible => Some("does not get it: ineligible"),
+            Fate::Filtered => Some("does not get it: filtered"),
             Fate::Refused => Some("does not get it: refused"),
             Fate::Lost => Some("does not get it: not chosen"),
             Fate::Best => Some("gets it"),

@@ -169,7 +169,7 @@ fn add_route_of(
     let (class, bar) = match fate {
         Fate::Unasked | Fate::Best => ("kb", BAR),
         Fate::Lost => ("line", THIN_BAR),
-        Fate::Refused | Fate::Ineligible => ("hollow", HOLLOW_BAR),
+        Fate::Refused | Fate::Filtered | Fate::Ineligible => ("hollow", HOLLOW_BAR),
         Fate::Own => ("line", LINE),
     };
     text.push_str("<g>")?;
