@@ -1,5 +1,5 @@
 -- How many routes of each sender a client does not get, for each reason (RFC 4271, section 9.1; RFC 7947, section 2.3).
-use Rattle.std.specs.Prelude.{ℕ, if◌then◌else◌, List, [], Option, None, Some, is_none, map}
+use Rattle.std.specs.Prelude.{ℕ, if◌then◌else◌, List, [], Option, is_none, map}
 use Rattle.std.specs.List.{filter_map, flat_map}
 use Rattle.std.specs.Option.{option_map, option_or}
 use Rattle.rs_update.specs.IpPrefix.{IpPrefix}

@@ -1,6 +1,5 @@
 -- They are all rows of the client, or none of one that is absent.
-use Rattle.std.proofs.Common.{◌≡◌, ◌∙◌}
-use Rattle.std.specs.Prelude.{None, Some}
+use Rattle.std.proofs.Common.{◌∙◌}
 use Rattle.rs_survey.specs.RowsToCome.{rows_in}
 use Rattle.rs_survey.proofs.RowLemmas.{all-of-client, first-of-all, none-of-absent}
 use Rattle.rs_survey.proofs.rows_to_come.RowsToCome.new.Goals as goal
