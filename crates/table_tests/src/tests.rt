@@ -2,7 +2,8 @@
 //!
 //! A line `exchange` describes an exchange, and a line `after` has changes of its peers (`exchanges`, `changes`). The
 //! rows below both are of that exchange. A row without a colon is a question and its answer after these changes. One
-//! with a colon has three columns: what is asked and of which case, what is given, and the answer.
+//! with a colon has three columns: what is asked and of which case, what is given, and the answer. What is given may be
+//! two columns, an import policy and routes (`import`).
 //!
 //! The first tests are of plans and single routes (`plans`, `routes`), and of the choice among routes (`decisions`).
 //! Then come the tables of clients (`clients`, `tables`, `random_changes`, `refusals`, `parts`), and what import policy

@@ -2,10 +2,10 @@
 //!
 //! The policy of an exchange is what is asked of all peers, and behind each semicolon what is asked of a peer, in the
 //! order of the peers. Both are fields with commas between them, each a name and words. Of all peers these are
-//! `lengths` (the bounds of a prefix's length), `prefixes` (refused ones) and `path` (the greatest length of AS_PATH).
-//! So are `ases` (refused ones), `first` (the first AS is enforced) and `vrps`. Of a peer they are `unasked`, or else
-//! `asked`, and its lists `list` (prefixes) and `origins` (AS numbers). A pattern is `10.0.0.0/8^9-24`, with the least
-//! and the most bits. A VRP is `10.0.0.0/8^24-64501`, with the maximum length and the AS. A range of AS numbers is
+//! `lengths` (the bounds of a prefix's length), `prefixes` (refused ones), `path` (the greatest length of AS_PATH),
+//! `ases` (refused ones), `first` (the first AS is enforced) and `vrps`. Of a peer they are `unasked`, or else `asked`,
+//! and its lists `list` (prefixes) and `origins` (AS numbers). A pattern is `10.0.0.0/8^9-24`, with the least and the
+//! most bits. A VRP is `10.0.0.0/8^24-64501`, with the maximum length and the AS. A range of AS numbers is
 //! `64501-64503`.
 
 use super::check_rows;
@@ -329,7 +329,7 @@ fn each_filter_has_its_routes_and_not_those_beside_them(rt: HostRuntime) -> Resu
 }
 
 // VRPs, routes, and the validity of each (RFC 6811, section 2). Then what it rests on: the origin AS of a route, its
-// first AS and its first refused one. Then the least and most bits of the most specific pattern that a prefix matches,
+// first AS and its first refused one; and the least and most bits of the most specific pattern that a prefix matches,
 // with the ASes of the VRPs that cover it, the most specific first.
 const VALIDITIES: &str = "
 exchange 64500 192.0.2.0/24; a,64501,192.0.2.11,192.0.2.11; b,64502,192.0.2.12,192.0.2.12
