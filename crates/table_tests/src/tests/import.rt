@@ -329,7 +329,7 @@ fn each_filter_has_its_routes_and_not_those_beside_them(rt: HostRuntime) -> Resu
 }
 
 // VRPs, routes, and the validity of each (RFC 6811, section 2). Then what it rests on: the origin AS of a route, its
-// first AS and its first refused one; and the least and most bits of the most specific pattern that a prefix matches,
+// first AS and its first refused one. Then the least and most bits of the most specific pattern that a prefix matches,
 // with the ASes of the VRPs that cover it, the most specific first.
 const VALIDITIES: &str = "
 exchange 64500 192.0.2.0/24; a,64501,192.0.2.11,192.0.2.11; b,64502,192.0.2.12,192.0.2.12
