@@ -7,6 +7,7 @@ use Rattle.std.specs.Str.{bytes_eq}
 use Rattle.rs_types.specs.declared.values.Origin.TheVariants.{Igp}
 use Rattle.rs_update.specs.PathAttributes.{PathAttributes, AsSequence}
 use Rattle.rs_update.specs.Spelling.{written, written_items}
+use Rattle.rs_choice.specs.Import.{no_import}
 use Rattle.rs_choice.specs.Plan.{Plan, Peer}
 use Rattle.rs_mrt.specs.Record.{record_spelling}
 use Rattle.rs_table.specs.Table.{TableRow}

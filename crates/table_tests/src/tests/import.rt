@@ -2,8 +2,8 @@
 //!
 //! The policy of an exchange is what is asked of all peers, and behind each semicolon what is asked of a peer, in the
 //! order of the peers. Both are fields with commas between them, each a name and words. Of all peers these are
-//! `lengths` (the bounds of a prefix's length), `prefixes` (refused ones), `path` (the greatest length of AS_PATH),
-//! `ases` (refused ones), `first` (the first AS is enforced) and `vrps`. Of a peer they are `unasked`, or else `asked`,
+//! `lengths` (the bounds of a prefix's length), `prefixes` (refused ones) and `path` (the greatest length of AS_PATH).
+//! So are `ases` (refused ones), `first` (the first AS is enforced) and `vrps`. Of a peer they are `unasked`, or else `asked`,
 //! and its lists `list` (prefixes) and `origins` (AS numbers). A pattern is `10.0.0.0/8^9-24`, with the least and the
 //! most bits. A VRP is `10.0.0.0/8^24-64501`, with the maximum length and the AS. A range of AS numbers is
 //! `64501-64503`.
