@@ -1,6 +1,7 @@
 """Runs the built program on exchanges and judges what comes by the slow reading."""
 
 import datetime
+import json
 import multiprocessing
 import os
 import re
@@ -15,6 +16,20 @@ def text_of(address):
     return ".".join(str(it) for it in address.to_bytes(4, "big"))
 
 
+def toml(value):
+    """A value of a key: a number, a word, a list, an inline table, or the name of a file."""
+    if isinstance(value, slow_reading.File):
+        return json.dumps(value.name)
+    if isinstance(value, dict):
+        return "{ " + ", ".join(f"{key} = {toml(it)}" for key, it in value.items()) + " }"
+    return json.dumps(value)
+
+
+def keys_text(keys):
+    """The lines of the keys (name, value) that have a value."""
+    return [f"{key} = {toml(value)}" for key, value in keys if value is not None]
+
+
 def configuration(server, peers, names):
     """The TOML text of an exchange whose peers' files have these names."""
     lines = ["[server]", f"as = {server.asn}", f'address = "{text_of(server.address)}"', f'id = "{text_of(server.id)}"']
@@ -25,6 +40,9 @@ def configuration(server, peers, names):
     for peer, name in zip(peers, names):
         lines += ["[[peer]]", f'name = "{peer.name}"', f"as = {peer.asn}", f'address = "{text_of(peer.address)}"', f'id = "{text_of(peer.id)}"']
         lines += [f"preference = {peer.preference}", f"refuse_from = {list(peer.refuse_from)}".replace("'", '"'), f'file = "{name}"']
+        lines += keys_text([("prefix_list", peer.prefix_list), ("as_list", peer.as_list), ("import", None if peer.import_ else False)])
+    if server.import_policy:
+        lines += ["[import]", *keys_text(server.import_policy._asdict().items())]
     return "\n".join(lines) + "\n"
 
 
@@ -42,7 +60,7 @@ class Bench:
 
     def judge(self, server, peers, files, time=0, words=(), errors="rfc4271"):
         """None where the program gives what the slow reading gives, else what differs. `files` has a (name, octets) for each peer."""
-        for name, octets in files:
+        for name, octets in files + [file for file, _ in slow_reading.lists(server, peers)]:
             self.put(name, octets)
         self.put("exchange.toml", configuration(server, peers, [name for name, _ in files]).encode())
         line = [self.program, "--config", "exchange.toml", "--out", "tables", "--time", str(time), *words]
@@ -51,7 +69,8 @@ class Bench:
         told, strict = ran.stderr.decode(errors="replace"), "--strict-after" in words
         reasons = [line for line in told.splitlines() if not re.search(NO_REASON, line)]
         clean = not strict or not reasons and all(line.endswith(" close end") for line in report.splitlines() if line.startswith("peer "))
-        if ran.returncode != (0 if clean else 5) or wrong_notes(server, peers, report, files, told, strict):
+        wrong = wrong_notes(server, peers, report, files, told, strict, errors)
+        if ran.returncode != (0 if clean else 5) or wrong:
             return f"status {ran.returncode}: {told}"
         if ran.stdout.decode() != report:
             return f"the report is\n{ran.stdout.decode()}and not\n{report}"
@@ -68,15 +87,19 @@ DOUBTS = r"(\S+ is empty|their files are empty|a loss at .*|losses are recorded 
 NO_REASON = r"note: peers? [\w, ]+: large communities 64500:\*:\* have no effect "
 
 
-def wrong_notes(server, peers, report, files, told, strict):
+def wrong_notes(server, peers, report, files, told, strict, errors):
     """The lines that may not be told, and those that must be: a run notes nothing but peers whose files gave only the close, files in which the session of a peer
-    closed within a record that the end of the file cuts short, and, if it is strict, what `session_notes` and `server_note` say."""
+    closed within a record that the end of the file cuts short, and, if it is strict, what `session_notes`, `server_note` and `import_notes` say."""
     silent = set(re.findall(r"^peer (\S+) changes 1 ", report, re.M))
     ends = re.findall(r"^peer .* close (.*)$", report, re.M)
     cut = {note: name for (name, octets), end in zip(files, ends) if end in ("mrt M1", "mrt M2") for note in cut_notes(name, octets, len(files), strict)}
     must = session_notes(peers, ends, files) + server_note(server, files) if strict else []
     lines = told.splitlines()
     wrong = [line for line in must if lines.count(line) != 1]
+    for form in import_notes(server, peers, files, errors) if strict else []:
+        said = [line for line in lines if re.fullmatch(form, line)]
+        wrong += [form] * (len(said) != 1)
+        lines = [line for line in lines if line not in said]
     for line in lines:
         note = re.match(r"route_server: note: peers? ([\w, ]+): (.*)", line)
         whose = set(re.split(", | and ", note[1])) if note else set()
@@ -129,7 +152,15 @@ def names_text(names):
     """Names as a note lists them: at most eight."""
     if len(names) > 8:
         return ", ".join(names[:8]) + f" and {len(names) - 8} more"
-    return ", ".join(names[:-1]) + " and " + names[-1]
+    return " and ".join(filter(None, [", ".join(names[:-1]), names[-1]]))
+
+
+def import_notes(server, peers, files, errors):
+    """The forms of the notes on peers of whose routes every one is filtered, and on lists and VRP files without an entry. They name the first file."""
+    names = [peer.name for peer in slow_reading.filtered_peers(server, peers, [octets for _, octets in files], errors)]
+    empty = list(dict.fromkeys(file.name for file in slow_reading.empty_lists(server, peers)))
+    forms = [f"route_server: note: peers? {names_text(names)}: .* filtered.*"] if names else []
+    return forms + ([rf"route_server: note: {re.escape(empty[0])} .*no entr.*"] if empty else [])
 
 
 def server_note(server, files):

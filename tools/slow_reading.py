@@ -2,14 +2,22 @@
 lists. Nothing here is fast, and nothing is taken from the program.
 
 RFC 6396 (records, dumps), RFC 4271 (messages, faults, decision), RFC 7606 (faults handled otherwise), RFC 1997 (communities), RFC 8092 (large communities),
-RFC 7947 (one table a client).
+RFC 6811 (origin validation), RFC 7947 (one table a client).
 """
 
+import functools
 from collections import namedtuple
 
-# subnet: (address, length) or None; large_communities: whether policy reads large communities
-Server = namedtuple("Server", "asn address id subnet large_communities", defaults=(False,))
-Peer = namedtuple("Peer", "name asn address id preference refuse_from")
+import slow_lists
+
+# A list or a VRP file, as a configuration names it.
+File = namedtuple("File", "name octets")
+# Import policy: the value of each key as the configuration has it, a File for `vrps`; None where the key is missing.
+Import = namedtuple("Import", "prefix_length refuse_prefixes max_as_path refuse_as enforce_first_as vrps", defaults=[None] * 6)
+# subnet: (address, length) or None; large_communities: whether policy reads large communities; import_policy: an Import, or None without such a table
+Server = namedtuple("Server", "asn address id subnet large_communities import_policy", defaults=(False, None))
+# prefix_list, as_list: a File or None; import_: whether import policy and the lists are asked of the peer's routes
+Peer = namedtuple("Peer", "name asn address id preference refuse_from prefix_list as_list import_", defaults=(None, None, True))
 Record = namedtuple("Record", "time type subtype body")
 Change = namedtuple("Change", "time kind prefix attributes reason")  # kind: announce, withdraw, down, close
 Route = namedtuple("Route", "time attributes")
@@ -35,6 +43,16 @@ def records(file):
         found.append(Record(number(header[0:4]), number(header[4:6]), number(header[6:8]), body))
         place += 12 + length
     return found, "end" if place == len(file) else "mrt M1"
+
+
+def up_to(file, time):
+    """The whole records of a file before the first one that is later."""
+    place = 0
+    for record in records(file)[0]:
+        if record.time > time:
+            break
+        place += 12 + len(record.body)
+    return file[:place]
 
 
 def entry(record):
@@ -309,11 +327,20 @@ def recorders(file):
     return found
 
 
-# ---- the table of a client (RFC 4271, section 9.1; RFC 7947, section 2.3)
+# ---- the path and the communities of a route
 
 
 def path(route):
     return segments(route.attributes[2][2])
+
+
+def path_length(route):
+    return sum(1 if kind == 1 else len(numbers) for kind, numbers in path(route))
+
+
+def first_as(route):
+    """The first AS number of a path that begins with an AS_SEQUENCE, else None."""
+    return path(route)[0][1][0] if path(route) and path(route)[0][0] == 2 else None
 
 
 def communities(route):
@@ -327,6 +354,89 @@ def large_communities(route):
     if len(value) % 12:
         return set()
     return {tuple(number(value[at + part : at + part + 4]) for part in (0, 4, 8)) for at in range(0, len(value), 12)}
+
+
+# ---- what is not taken in: import policy (RFC 4271, section 9.1.1; RFC 6811, section 2)
+
+vrps = functools.cache(slow_lists.vrps)
+prefix_entries = functools.cache(slow_lists.prefix_entries)
+as_entries = functools.cache(slow_lists.as_entries)
+
+
+def lists(server, peers):
+    """The VRP file and the lists, in the order in which they are read, each with what reads it."""
+    files = [(server.import_policy.vrps, vrps)] if server.import_policy else []
+    files += [pair for peer in peers for pair in ((peer.prefix_list, prefix_entries), (peer.as_list, as_entries))]
+    return [(file, read) for file, read in files if file]
+
+
+def empty_lists(server, peers):
+    """Those without an entry of IPv4."""
+    return [file for file, read in lists(server, peers) if not read(file.octets)]
+
+
+def covers(it, prefix):
+    """Whether the prefix of a pattern or of a VRP is the same as another one, or less specific."""
+    return it.length <= prefix[1] and it.address >> (32 - it.length) == prefix[0] >> (32 - it.length)
+
+
+def matches(pattern, prefix):
+    return covers(pattern, prefix) and pattern.least <= prefix[1] <= pattern.most
+
+
+def origin_as(server, route):
+    """The origin AS: the server's for an empty path, and None where the final segment is an AS_SET."""
+    if not path(route):
+        return server.asn
+    kind, numbers = path(route)[-1]
+    return numbers[-1] if kind == 2 else None
+
+
+def covering_vrps(server, prefix):
+    """The VRPs of the prefix or of less specific ones, each once, in ascending order."""
+    return sorted({it for it in vrps(server.import_policy.vrps.octets) if covers(it, prefix)})
+
+
+def validity(server, prefix, route):
+    """Whether a route is valid, invalid or not_found by the VRPs. One of AS 0 matches no route."""
+    covering = covering_vrps(server, prefix)
+    if any(prefix[1] <= it.most and 0 != it.asn == origin_as(server, route) for it in covering):
+        return "valid"
+    return "invalid" if covering else "not_found"
+
+
+def failed_conditions(server, peer, prefix, route):
+    """Each condition of the import policy and of the peer's lists that a route fails, with what is told of it, in the order of the conditions."""
+    policy = server.import_policy or Import()
+    bounds = policy.prefix_length or {}
+    if not bounds.get("min", 0) <= prefix[1] <= bounds.get("max", 32):
+        yield "prefix_length", prefix[1]
+    matching = [it for it in map(slow_lists.pattern, policy.refuse_prefixes or ()) if matches(it, prefix)]
+    if matching:
+        yield "refused_prefix", max(matching, key=lambda it: (it.length, it.least, it.most))
+    if policy.max_as_path is not None and path_length(route) > policy.max_as_path:
+        yield "path_length_limit", path_length(route)
+    ranges = list(map(slow_lists.as_range, policy.refuse_as or ()))
+    refused = [asn for _, numbers in path(route) for asn in numbers if any(asn in it for it in ranges)]
+    if refused:
+        yield "refused_as", refused[0]
+    if policy.enforce_first_as and first_as(route) != peer.asn:
+        yield "first_as", first_as(route)
+    if peer.prefix_list and not any(matches(it, prefix) for it in prefix_entries(peer.prefix_list.octets)):
+        yield "prefix_list", None
+    origin = origin_as(server, route)
+    if peer.as_list and not any(origin in it for it in as_entries(peer.as_list.octets)):
+        yield "origin_as", origin
+    if policy.vrps and validity(server, prefix, route) == "invalid":
+        yield "rpki_invalid", (origin, covering_vrps(server, prefix))
+
+
+def filtered(server, peer, prefix, route):
+    """The reason why a route is not taken in, and what is told of it; None where it is. It is asked of eligible routes."""
+    return next(failed_conditions(server, peer, prefix, route), None) if peer.import_ else None
+
+
+# ---- the table of a client (RFC 4271, section 9.1; RFC 7947, section 2.3)
 
 
 def is_eligible(server, peer, route):
@@ -353,12 +463,12 @@ def is_permitted(server, client, peer, route):
     return not (has(0, server.asn) or has_large(0, 0))
 
 
-def path_length(route):
-    return sum(1 if kind == 1 else len(numbers) for kind, numbers in path(route))
-
-
 def neighbour(peer, route):
-    return path(route)[0][1][0] if path(route) and path(route)[0][0] == 2 else peer.asn
+    return peer.asn if first_as(route) is None else first_as(route)
+
+
+def is_candidate(server, client, peer, prefix, route):
+    return is_eligible(server, peer, route) and not filtered(server, peer, prefix, route) and is_permitted(server, client, peer, route)
 
 
 def med(route):
@@ -387,12 +497,22 @@ def table(server, peers, ribs, client):
         candidates = [
             (peer, rib[prefix])
             for peer, rib in zip(peers, ribs)
-            if peer is not client and prefix in rib and is_eligible(server, peer, rib[prefix]) and is_permitted(server, client, peer, rib[prefix])
+            if peer is not client and prefix in rib and is_candidate(server, client, peer, prefix, rib[prefix])
         ]
         chosen = best(candidates)
         if chosen:
             rows.append((prefix, peers.index(chosen[0]), chosen[1]))
     return rows
+
+
+def filtered_peers(server, peers, files, errors):
+    """The peers of whose routes left every one is filtered."""
+    ribs = [left(session(file, peer, errors)[0]) for peer, file in zip(peers, files)]
+    return [peer for peer, rib in zip(peers, ribs) if rib and all(is_filtered(server, peer, *it) for it in rib.items())]
+
+
+def is_filtered(server, peer, prefix, route):
+    return is_eligible(server, peer, route) and filtered(server, peer, prefix, route) is not None
 
 
 # ---- dumps and report (RFC 6396, section 4.3)
