@@ -3,12 +3,12 @@
 use crate::names::{PrefixText, name_at};
 use rs_choice::{Exchange, Standing, Step};
 use rs_explain::{Condition, ConditionKind, Explanation, MissingReason, Refusal, Removal};
+use rs_import::Filter;
 use rs_query::reason_names::{
     ADDRESS, IDENTIFIER, INELIGIBLE, LOST, MED, NEXT_HOP_OFF_EXCHANGE, ORIGIN, PATH_LENGTH,
     PREFERENCE, REFUSED, REFUSED_BY_COMMUNITY, REFUSED_BY_NAME, SERVER_ADDRESS_AS_NEXT_HOP,
     SERVER_AS_IN_PATH,
 };
-use rs_import::Filter;
 use rs_session::Reason;
 use rs_update::Origin;
 use std::alloc::{AllocError, Global};
