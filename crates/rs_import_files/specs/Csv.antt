@@ -1,12 +1,12 @@
 -- VRPs as records of CSV, in the form of rpki-client and Routinator (RFC 4180; RFC 6811, section 2, for a VRP).
-use Rattle.std.specs.Prelude.{◌≡◌, ◌≤◌, ◌⊎◌, ℕ, ◌==◌, Bool, false, not, List, [], ◌∷◌, codes, Some, IsSomeAnd}
-use Rattle.std.specs.List.{AllZip, filter, list_any}
+use Rattle.std.specs.Prelude.{◌≡◌, ◌≤◌, ◌⊎◌, ℕ, Bool, false, not, List, [], ◌∷◌, codes, Some, IsSomeAnd}
+use Rattle.std.specs.List.{AllZip, filter}
 use Rattle.std.specs.Option.{option_map, unwrap_or}
 use Rattle.csv.specs.Reading.{AreRecords, default_config}
 use Rattle.csv.specs.Records.{field_at}
 use Rattle.csv.specs.declared.parser.State.TheVariants as st
 use Rattle.rs_import.specs.declared.vrp.Vrp.{Vrp}
-use Rattle.rs_import_files.specs.Texts.{IsAsNumber, IsLength, IsPrefixText}
+use Rattle.rs_import_files.specs.Texts.{IsAsNumber, IsLength, IsPrefixText, has_colon}
 
 -- the records of a text
 abbrev pub AreRecordsOf : List ℕ → List (List (List ℕ)) → Type 0
@@ -15,10 +15,6 @@ AreRecordsOf text records = AreRecords default_config st.StartRecord text record
 -- the titles of a VRP file: the first of them is "ASN"
 abbrev pub AreTitles : List (List ℕ) → Type 0
 AreTitles titles = field_at titles 0 ≡ Some (codes "ASN")
-
--- a text has a colon, as each prefix of IPv6 has
-abbrev pub has_colon : List ℕ → Bool
-has_colon text = list_any (λ octet. octet == 58) text
 
 -- a record counts: its second field, the prefix, is none of IPv6
 abbrev pub is_counted : List (List ℕ) → Bool

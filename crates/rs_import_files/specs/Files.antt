@@ -8,8 +8,7 @@ use Rattle.rs_import.specs.declared.pattern.Pattern.{Pattern}
 use Rattle.rs_import.specs.declared.vrp.Vrp.{Vrp}
 use Rattle.rs_import_files.specs.Csv.{IsCsvOfVrps}
 use Rattle.rs_import_files.specs.JsonRows.{IsJsonOfPatterns, IsJsonOfRanges, IsJsonOfVrps}
-use Rattle.rs_import_files.specs.Lines.{IsTextList}
-use Rattle.rs_import_files.specs.Texts.{IsAsEntry, IsPattern}
+use Rattle.rs_import_files.specs.Lines.{IsTextOfPatterns, IsTextOfRanges}
 
 -- a text is JSON: its first character that is no blank is an opening brace
 abbrev pub is_json : List ℕ → Bool
@@ -23,10 +22,10 @@ Says IsJson IsOther text entries = MatchBool (is_json text) (IsJson text entries
 abbrev pub IsVrpFile : List ℕ → List Vrp → Type 0
 IsVrpFile octets vrps = Says IsJsonOfVrps IsCsvOfVrps (strip_bom octets) vrps
 
--- a list of prefixes: JSON, or else a pattern in each line
+-- a list of prefixes: JSON, or else a pattern in each line; prefixes of IPv6 are passed over
 abbrev pub IsPrefixList : List ℕ → List Pattern → Type 0
-IsPrefixList octets patterns = Says IsJsonOfPatterns (IsTextList IsPattern) (strip_bom octets) patterns
+IsPrefixList octets patterns = Says IsJsonOfPatterns IsTextOfPatterns (strip_bom octets) patterns
 
 -- a list of AS numbers: JSON, or else an AS number or a range of them in each line
 abbrev pub IsAsList : List ℕ → List AsRange → Type 0
-IsAsList octets ranges = Says IsJsonOfRanges (IsTextList IsAsEntry) (strip_bom octets) ranges
+IsAsList octets ranges = Says IsJsonOfRanges IsTextOfRanges (strip_bom octets) ranges

@@ -9,8 +9,7 @@ use Rattle.json.specs.Value.{items_of}
 use Rattle.rs_import.specs.declared.as_range.AsRange.{AsRange}
 use Rattle.rs_import.specs.declared.pattern.Pattern.{Pattern}
 use Rattle.rs_import.specs.declared.vrp.Vrp.{Vrp}
-use Rattle.rs_import_files.specs.Csv.{has_colon}
-use Rattle.rs_import_files.specs.Texts.{AreBounds, IsAsNumber, IsLength, IsNumber, IsPrefixText}
+use Rattle.rs_import_files.specs.Texts.{AreBounds, IsAsNumber, IsLength, IsNumber, IsPrefixText, has_colon}
 
 -- a value is an AS number: a number, or a text with or without "AS" before it
 abbrev pub IsAsValue : Json → ℕ → Type 0

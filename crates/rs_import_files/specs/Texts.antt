@@ -1,6 +1,7 @@
 -- AS numbers, prefixes and patterns as texts (RFC 5396 for "asplain"; RFC 4632 for a prefix; BIRD 2 for patterns).
-use Rattle.std.specs.Prelude.{◌≡◌, ℕ, ◌<◌, ◌≤◌, ◌^◌, ◌⊎◌, List, [], ◌++◌, codes, decimal}
+use Rattle.std.specs.Prelude.{◌≡◌, ℕ, ◌<◌, ◌≤◌, ◌^◌, ◌⊎◌, ◌==◌, Bool, List, [], ◌++◌, codes, decimal}
 use Rattle.std.specs.Int.{w32, from_be_bytes}
+use Rattle.std.specs.List.{list_any}
 use Rattle.std.specs.Net.Grammar.{IsDotted}
 use Rattle.rs_types.specs.IpPrefix.{IpPrefix, IsPrefix}
 use Rattle.rs_import.specs.declared.as_range.AsRange.{AsRange}
@@ -37,6 +38,10 @@ IsAsRange text range = (IsNumber text range.first × (range.last ≡ range.first
 -- the same, where "AS" may stand before a single number
 abbrev pub IsAsEntry : List ℕ → AsRange → Type 0
 IsAsEntry text range = (IsAsNumber text range.first × (range.last ≡ range.first)) ⊎ IsSpan text range
+
+-- a text has a colon, as each prefix of IPv6 has
+abbrev pub has_colon : List ℕ → Bool
+has_colon text = list_any (λ octet. octet == 58) text
 
 -- a text is an address: four decimal numbers with dots between them and without needless zeros
 abbrev pub IsDottedAddress : List ℕ → ℕ → Type 0

@@ -1,6 +1,7 @@
-//! Texts that are cut at a character.
+//! Characters in texts: where a text is cut, and whether it has a colon.
 
-ghost use Rattle.std.specs.Prelude.{◌≡◌, ◌<◌, ◌++◌, [], ◌∷◌, IfSome, codes};
+ghost use Rattle.std.specs.Prelude.{◌≡◌, ◌<◌, ◌++◌, [], ◌∷◌, IfSome};
+ghost use Rattle.rs_import_files.specs.Texts.{has_colon};
 
 // What stands before the first mark of a text, and what stands after it.
 pub(crate) fn cut_at(text: &str, mark: char) -> Option<(&str, &str)>
@@ -19,4 +20,11 @@ pub(crate) fn without_last(text: &str, mark: char) -> Option<&str>
         [_front @ .., last] if u32::from(*last) == u32::from(mark) => text.get(..text.len() - 1),
         _ => None,
     }
+}
+
+// Whether a text has a colon.
+pub(crate) fn has_colon(text: &str) -> bool
+    ensures { result ≡ has_colon text.now }
+{
+    text.as_bytes().iter().any(|octet| *octet == b':')
 }

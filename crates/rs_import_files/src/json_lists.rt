@@ -9,7 +9,7 @@ ghost use Rattle.rs_import_files.specs.JsonRows.{IsJsonOfPatterns, IsJsonOfRange
 ghost use Rattle.rs_import_files.specs.JsonRows.{IsPatternRow, IsRangeRow, IsVrpRow, ListsHave, counts, has_bound};
 ghost use Rattle.rs_import_files.specs.Texts.{AreBounds};
 
-use crate::csv_vrps::has_colon;
+use crate::cuts::has_colon;
 use crate::fault::{Flaw, ListFault};
 use crate::json_values::{
     bound_or, has_bound, need_as_value, need_lawful_exact, need_length_value, need_member,
