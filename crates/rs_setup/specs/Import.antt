@@ -31,8 +31,8 @@ IsLength value len = (value ≡ integer (pos len)) × (len ≤ 32)
 -- bounds of prefix lengths: the least is 0 and the most is 32 if they are not configured
 pub record AreBoundsOf (keys : Members) (least most : ℕ) : Type 0 where
   pub known : HasOnly length_keys keys
-  pub least : MayHave keys (codes "min") IsLength 0 least
-  pub most : MayHave keys (codes "max") IsLength 32 most
+  pub min : MayHave keys (codes "min") IsLength 0 least
+  pub max : MayHave keys (codes "max") IsLength 32 most
   pub ascending : least ≤ most
 
 abbrev pub AreBounds : Data → ℕ × ℕ → Type 0
@@ -101,9 +101,11 @@ abbrev pub path_in : Option (List ℕ) → List (List ℕ)
 path_in None = []
 path_in (Some path) = path ∷ []
 
+-- the paths of a peer's lists
+abbrev pub paths_of_peer : PeerLists → List (List ℕ)
+paths_of_peer lists =
+    path_in (option_map string_bytes lists.prefix_list) ++ path_in (option_map string_bytes lists.as_list)
+
 -- the paths of all lists: of the VRP file first, then those of each peer
 abbrev pub paths_of : ImportSetup → List (List ℕ)
-paths_of import =
-    path_in (option_map string_bytes import.vrps)
-    ++ flat_map (λ lists. path_in (option_map string_bytes lists.prefix_list)
-    ++ path_in (option_map string_bytes lists.as_list)) import.peers.items
+paths_of import = path_in (option_map string_bytes import.vrps) ++ flat_map paths_of_peer import.peers.items
