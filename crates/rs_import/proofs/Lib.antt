@@ -3,6 +3,7 @@ pub mod CoverLemmas
 pub mod SearchLemmas
 pub mod MemberLemmas
 pub mod PathLemmas
+pub mod ReachLemmas
 pub mod SetLemmas
 pub mod ValidityLemmas
 pub mod VrpLemmas
