@@ -5,5 +5,6 @@ pub mod MemberLemmas
 pub mod PathLemmas
 pub mod ReachLemmas
 pub mod SetLemmas
+pub mod SpecificLemmas
 pub mod ValidityLemmas
 pub mod VrpLemmas

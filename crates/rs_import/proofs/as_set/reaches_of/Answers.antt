@@ -1,7 +1,7 @@
 use Rattle.std.proofs.Common.{◌≡◌, ◌∙◌, ◌+◌, ◌<◌, ℕ, List, ap, arith, length, subst, sym}
 use Rattle.std.specs.List.{HoldsAt}
 use Rattle.std.proofs.lemmas.List.{length_push}
-use Rattle.rs_import.specs.Reaches.{AreReaches, IsReach}
+use Rattle.rs_import.specs.Reaches.{IsReach}
 use Rattle.rs_import.proofs.ReachLemmas.{reach-more, reaches-push}
 use Rattle.rs_import.proofs.as_set.reaches_of.Goals as goal
 
