@@ -1,4 +1,5 @@
 -- Lemmas on definitions, for the proofs of this crate.
+pub mod AlikeLemmas
 pub mod CoverLemmas
 pub mod SearchLemmas
 pub mod MemberLemmas

@@ -3,6 +3,7 @@ pub mod AsRanges  -- AS numbers by ranges
 pub mod Patterns  -- patterns of prefixes
 pub mod Rpki  -- origin AS, and validity by RPKI (RFC 6811)
 pub mod Import  -- which routes are taken in
+pub mod Alike  -- policies that say the same
 pub mod Laws  -- laws of them
 -- How values are kept:
 pub mod ImportView  -- import policy by its fields
