@@ -11,13 +11,14 @@ use Rattle.std.proofs.lemmas.Slice.Eq.{bytes_eq-Decides}
 use Rattle.std.specs.List.{AllZip, Contains, list_any, position_or_len, before_first, after_first}
 use Rattle.std.specs.Prelude.{IfSome, MatchOption}
 use Rattle.std.specs.Str.{bytes_eq}
-use Rattle.toml.specs.Data.{Data, string, as_str, Items, no_items, item, push_item}
+use Rattle.toml.specs.Data.{Data, string, as_str, Items, no_items, item, push_item, Members}
 use Rattle.toml.specs.View.{items_of}
 use Rattle.std.specs.Prelude.{string_bytes}
-use Rattle.rs_choice.specs.Plan.{Peer, peer_of}
+use Rattle.rs_choice.specs.Plan.{Peer, Plan, peer_of}
+use Rattle.rs_import.specs.Import.{no_import}
 use Rattle.rs_setup.specs.Import.{AreLists}
 use Rattle.rs_setup.specs.Peers.{IsAdded}
-use Rattle.rs_setup.specs.Setup.{ArePeers, IsPeer}
+use Rattle.rs_setup.specs.Setup.{ArePeers, IsPeer, IsSetup}
 use Rattle.rs_setup.specs.Values.{AreAll}
 use Rattle.rs_setup.specs.declared.peers.Peers.{Peers}
 
@@ -113,6 +114,13 @@ pub added : (values : Items) (before after : Peers) (value : Data)
     → ArePeers (push_item values value) (map peer_of after.specs.items) (map string_bytes after.files.items)
     × AreAll AreLists (push_item values value) after.lists.items
 added values before after value (are, all) one =
-    rw (one.peers, one.files, one.all_lists)
-    (ArePeers-push values (map peer_of before.specs.items) (map string_bytes before.files.items) value one.peer one.file are one.is_peer,
-    AreAll-push AreLists values before.lists.items value one.lists all one.are_lists)
+    rw (one.peers, one.files, one.all_lists) (
+      ArePeers-push values (map peer_of before.specs.items) (map string_bytes before.files.items) value one.peer one.file are one.is_peer,
+      AreAll-push AreLists values before.lists.items value one.lists all one.are_lists,
+    )
+
+-- a plan that is set up by a text alone asks nothing on import
+pub asks_nothing : {keys : Members} {files : List (List ℕ)} (plan : Plan) → IsSetup keys plan files
+    → IsSetup keys (record plan { import = no_import }) files
+asks_nothing plan set_up =
+    record { known = set_up.known; server = set_up.server; peers = set_up.peers; import = refl }

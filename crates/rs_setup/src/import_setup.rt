@@ -6,6 +6,7 @@ ghost use Rattle.rs_setup.specs.Import.{IsRulesOf, has_list, path_in, paths_of};
 ghost use Rattle.rs_setup.specs.Section.{members_in};
 ghost use Rattle.rs_setup.specs.Values.{MayHave};
 ghost use Rattle.rs_import.specs.Import.{no_rules};
+ghost use Rattle.std.specs.List.{list_any};
 
 use crate::entries::entries;
 use crate::keys::{Place, Section};
@@ -38,13 +39,18 @@ pub struct PeerLists {
     pub is_asked: bool,
 }
 
-impl PeerLists {
-    /// Whether the peer has a list.
-    pub fn has_list(&self) -> bool
-        ensures { result ≡ has_list self.now }
-    {
-        self.prefix_list.is_some() || self.as_list.is_some()
-    }
+/// Whether some peer has a list.
+pub fn has_lists(peers: &[PeerLists]) -> bool
+    ensures { result ≡ list_any has_list peers.now }
+{
+    peers.iter().any(|lists| has_list(lists))
+}
+
+// Whether a peer has a list.
+fn has_list(lists: &PeerLists) -> bool
+    ensures { result ≡ has_list lists.now }
+{
+    lists.prefix_list.is_some() || lists.as_list.is_some()
 }
 
 /// Reads the lists of a peer out of its table.

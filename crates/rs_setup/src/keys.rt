@@ -1,6 +1,7 @@
 //! The keys of a configuration's tables: which there are, which must be there, and how a fault names them.
 
 ghost use Rattle.std.specs.Prelude.{◌≡◌, IfOk, None, Some, [], map, option_map, string_bytes};
+ghost use Rattle.std.specs.Option.{is_some};
 ghost use Rattle.toml.specs.Data.{get_member};
 ghost use Rattle.toml.specs.View.{table_view, view};
 ghost use Rattle.rs_setup.specs.Values.{HasOnly, IsAddress, IsBoolean, IsSomeNumber, IsSomeSubnet, IsSomeText, IsText};
@@ -79,6 +80,13 @@ impl<'a> Section<'a> {
         ensures { option_map (λ value. view value.now) result ≡ get_member key.now (members_in self.now) }
     {
         self.table.get(key)
+    }
+
+    /// Whether a key is there.
+    pub fn has(&self, key: &str) -> bool
+        ensures { result ≡ is_some (get_member key.now (members_in self.now)) }
+    {
+        self.get(key).is_some()
     }
 
     /// The value at a key that must be there.

@@ -17,7 +17,7 @@ ghost use Rattle.rs_setup.specs.Values.{MayHave};
 ghost use Rattle.rs_import.specs.Import.{no_rules};
 ghost use Rattle.rs_setup.specs.declared.setup.SetupFault.TheVariants.{Memory};
 
-use crate::import_setup::{ImportSetup, PeerLists, list_paths, read_rules};
+use crate::import_setup::{ImportSetup, PeerLists, has_lists, list_paths, read_rules};
 use crate::keys::{Place, Section};
 use crate::list_files::ListFiles;
 use crate::lists::policy_of;
@@ -221,8 +221,9 @@ fn read_import(
         ≡ (is_some (get_member (codes "import") (members_in top.now)) || list_any has_list peers.items)) }
 {
     let (rules, vrps) = read_rules(alloc, top)?;
+    let is_configured = top.has("import") || has_lists(&peers);
     Ok(ImportSetup {
-        is_configured: top.get("import").is_some() || peers.iter().any(PeerLists::has_list),
+        is_configured,
         rules,
         vrps,
         peers,

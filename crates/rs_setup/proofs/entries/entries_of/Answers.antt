@@ -17,7 +17,8 @@ loop-value-preserved g c =
     let values_grow : items_view (take (index + 1) values) ≡ push_item (items_view (take index values)) (view value) =
     ap items_view more ∙ items_view-push (take index values) value in
     let longer : length c.push.new.self.items ≡ index + 1 =
-    ap length c.in_ok-push.ensures.items ∙ length-append entries (c.in-Some.entry ∷ []) ∙ ap (λ n. n + 1) c.loop-value.invariant.1 in
-    (rw (values_grow, c.in_ok-push.ensures.items)
-    (AreAll-push g.E.Entry.is (items_view (take index values)) entries (view value) c.in-Some.entry c.loop-value.invariant.0 c.in-Some.ensures),
-    longer)
+    ap length c.in_ok-push.ensures.items ∙ length-append entries (c.in-Some.entry ∷ []) ∙ ap (λ n. n + 1) c.loop-value.invariant.1 in (
+      rw (values_grow, c.in_ok-push.ensures.items)
+          (AreAll-push g.E.Entry.is (items_view (take index values)) entries (view value) c.in-Some.entry c.loop-value.invariant.0 c.in-Some.ensures),
+      longer,
+    )

@@ -1,17 +1,11 @@
-use Rattle.std.proofs.Common.{rules, ◌≡◌, ℕ, List, IfOk, IfSome, OnOk, option_map, string_bytes, ◌+◌, ◌-◌, ◌*◌, ◌<◌, ◌≤◌, length, ◌/◌, ◌%◌, Bool, true, false, nat_eq, nat_lt, [], ◌∷◌, ◌++◌, slice_index_or, slice_set, bit_and, bit_or, Fits, w8, w32, w64, Bor, MutBor}
-use Rattle.std.specs.List.{AllZip}
-use Rattle.rs_setup.specs.Known.{AreAllKnown, AreKnown, IsAmong}
-use Rattle.rs_setup.specs.Lists.{FileSays, IsPeerImport, IsPolicy, MaySay, SaysNumbers, SaysPatterns, SaysVrps}
+use Rattle.std.proofs.Common.{◌∙◌, sym}
+use Rattle.std.proofs.lemmas.Slice.Eq.{bytes_eq-Decides}
 use Rattle.rs_setup.proofs.lists.known_at.Goals as goal
 
--- src/lists.rt:165:5
-pub loop-one-init : goal.loop-one-init
-loop-one-init g c = ?
-
--- src/lists.rt:167:13
 pub returns-then-eq : goal.returns-then-eq
-returns-then-eq g c = ?
-
--- src/lists.rt:165:5
-pub loop-one-preserved : goal.loop-one-preserved
-loop-one-preserved g c = ?
+returns-then-eq g c = (
+  c.one-item.result,
+  (c.loop-one.one-index, c.loop-one-test.true, sym c.one-item.is),
+  sym c.as_str.ensures.value ∙ (bytes_eq-Decides c.as_str.result.now c.args.path.now).0 (sym c.if-eq.ensures),
+  sym c.in_ok-clone.ensures.cases,
+)
