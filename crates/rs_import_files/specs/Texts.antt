@@ -1,11 +1,19 @@
 -- AS numbers, prefixes and patterns as texts (RFC 5396 for "asplain"; RFC 4632 for a prefix; BIRD 2 for patterns).
-use Rattle.std.specs.Prelude.{◌≡◌, ℕ, ◌<◌, ◌≤◌, ◌^◌, ◌⊎◌, ◌==◌, Bool, List, [], ◌++◌, codes, decimal}
+use Rattle.std.specs.Prelude.{◌≡◌, ◌≢◌, ℕ, ◌<◌, ◌≤◌, ◌^◌, ◌⊎◌, ◌==◌, Bool, List, [], ◌++◌, codes, decimal}
 use Rattle.std.specs.Int.{w32, from_be_bytes}
-use Rattle.std.specs.List.{list_any}
+use Rattle.std.specs.List.{All, list_any}
 use Rattle.std.specs.Net.Grammar.{IsDotted}
 use Rattle.rs_types.specs.IpPrefix.{IpPrefix, IsPrefix}
 use Rattle.rs_import.specs.declared.as_range.AsRange.{AsRange}
 use Rattle.rs_import.specs.declared.pattern.Pattern.{Pattern}
+
+-- a text or a value has no meaning of this sort
+abbrev pub StandsForNone : {V A : Type 0} → (V → A → Type 0) → V → Type 0
+StandsForNone {V} {A} StandsFor value = (found : A) → ¬ (StandsFor value found)
+
+-- a text has no octet like this one
+abbrev pub Lacks : ℕ → List ℕ → Type 0
+Lacks mark text = All (λ octet. octet ≢ mark) text
 
 -- a text is a decimal number of 32 bits, without needless zeros
 abbrev pub IsNumber : List ℕ → ℕ → Type 0

@@ -1,12 +1,14 @@
 //! Characters in texts: where a text is cut, and whether it has a colon.
 
-ghost use Rattle.std.specs.Prelude.{◌≡◌, ◌<◌, ◌++◌, [], ◌∷◌, IfSome};
-ghost use Rattle.rs_import_files.specs.Texts.{has_colon};
+ghost use Rattle.std.specs.Prelude.{◌≡◌, ◌≢◌, ◌<◌, ◌++◌, ℕ, List, [], ◌∷◌, IfNone, IfSome};
+ghost use Rattle.rs_import_files.specs.Texts.{Lacks, has_colon};
 
 // What stands before the first mark of a text, and what stands after it.
 pub(crate) fn cut_at(text: &str, mark: char) -> Option<(&str, &str)>
     requires { mark < 128 }
-    ensures { IfSome result (λ (front, back). text.now ≡ front.now ++ (mark ∷ []) ++ back.now) }
+    ensures parts { IfSome result (λ (front, back). text.now ≡ front.now ++ (mark ∷ []) ++ back.now) }
+    ensures first { IfSome result (λ (front, back). Lacks mark front.now) }
+    ensures none { IfNone result (Lacks mark text.now) }
 {
     text.split_once(mark)
 }
@@ -14,12 +16,10 @@ pub(crate) fn cut_at(text: &str, mark: char) -> Option<(&str, &str)>
 // A text without the mark at its end.
 pub(crate) fn without_last(text: &str, mark: char) -> Option<&str>
     requires { mark < 128 }
-    ensures { IfSome result (λ front. text.now ≡ front.now ++ (mark ∷ [])) }
+    ensures found { IfSome result (λ front. text.now ≡ front.now ++ (mark ∷ [])) }
+    ensures none { IfNone result ((front : List ℕ) → text.now ≢ front ++ (mark ∷ [])) }
 {
-    match text.as_bytes() {
-        [_front @ .., last] if u32::from(*last) == u32::from(mark) => text.get(..text.len() - 1),
-        _ => None,
-    }
+    text.strip_suffix(mark)
 }
 
 // Whether a text has a colon.
