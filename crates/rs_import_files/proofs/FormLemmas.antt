@@ -54,7 +54,7 @@ module _ (text front back : List ℕ) (split : text ≡ front ++ codes "/" ++ ba
       none (subst (λ n. IsPrefix n len) one (subst (λ n. IsPrefix prefix.address n) two parts.2))
 
 -- the length of the prefix that a text is
-prefix_len_once : (text : List ℕ) (one other : IpPrefix) → IsPrefixText text one → IsPrefixText text other → one.len ≡ other.len
+pub prefix_len_once : (text : List ℕ) (one other : IpPrefix) → IsPrefixText text one → IsPrefixText text other → one.len ≡ other.len
 prefix_len_once text one other (front, back, split, address, len, is) also =
     length_once back one.len other.len len
     (prefix_parts text front back split (address_lacks 47 slash (λ dot. omega (arith, dot)) front one.address address) other also).1

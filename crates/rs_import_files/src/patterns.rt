@@ -9,8 +9,8 @@ use crate::prefixes::read_prefix;
 use rs_import::Pattern;
 use rs_types::Prefix;
 
-/// The pattern that a text is. It is a prefix alone, or a prefix and `+`: all more specific ones match, too. Or it is a
-/// prefix and `{n,m}`: the prefixes of n to m bits inside it match.
+/// The pattern that a text is. It is a prefix alone, or a prefix and `+`: all more specific ones match, too. Or it is
+/// a prefix and `{n,m}`: the prefixes of n to m bits inside it match.
 pub fn read_pattern(text: &str) -> Option<Pattern>
     ensures found { IfSome result (IsPattern text.now) }
     ensures none { IfNone result (StandsForNone IsPattern text.now) }
