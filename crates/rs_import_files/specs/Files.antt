@@ -2,6 +2,7 @@
 use Rattle.std.specs.Prelude.{ℕ, ◌==◌, Bool, MatchBool, List, drop, slice_index}
 use Rattle.std.specs.Char.{is_ascii_whitespace}
 use Rattle.std.specs.List.{prefix_len}
+use Rattle.std.specs.Str.{IsUtf8}
 use Rattle.csv.specs.Reading.{strip_bom}
 use Rattle.rs_import.specs.declared.as_range.AsRange.{AsRange}
 use Rattle.rs_import.specs.declared.pattern.Pattern.{Pattern}
@@ -14,9 +15,10 @@ use Rattle.rs_import_files.specs.Lines.{IsTextOfPatterns, IsTextOfRanges}
 abbrev pub is_json : List ℕ → Bool
 is_json text = slice_index (drop (prefix_len is_ascii_whitespace text) text) 0 == 123
 
--- what a text says, as JSON or else in another form
+-- what octets of UTF-8 say, as JSON or else in another form
 abbrev pub Says : {E : Type 0} → (List ℕ → List E → Type 0) → (List ℕ → List E → Type 0) → List ℕ → List E → Type 0
-Says IsJson IsOther text entries = MatchBool (is_json text) (IsJson text entries) (IsOther text entries)
+Says IsJson IsOther text entries =
+    IsUtf8 text × MatchBool (is_json text) (IsJson text entries) (IsOther text entries)
 
 -- A VRP file: JSON, or else CSV. A byte order mark at the front of a file has no meaning.
 abbrev pub IsVrpFile : List ℕ → List Vrp → Type 0

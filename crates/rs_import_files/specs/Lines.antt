@@ -5,7 +5,7 @@ use Rattle.std.specs.List.{AllZip, before_first, filter, prefix_len, suffix_len}
 use Rattle.std.specs.Str.Lines.{lines}
 use Rattle.rs_import.specs.declared.as_range.AsRange.{AsRange}
 use Rattle.rs_import.specs.declared.pattern.Pattern.{Pattern}
-use Rattle.rs_import_files.specs.Texts.{IsAsEntry, IsPattern, has_colon}
+use Rattle.rs_import_files.specs.Texts.{IsAsEntry, IsPattern, is_ipv6}
 
 -- a text without the blanks at its front and at its end
 abbrev pub without_blanks : List ℕ → List ℕ
@@ -23,11 +23,12 @@ is_entry line = not (length (said_by line) == 0)
 
 -- a line says something that is none of IPv6
 abbrev pub is_ipv4_entry : List ℕ → Bool
-is_ipv4_entry line = is_entry line && not (has_colon (said_by line))
+is_ipv4_entry line = is_entry line && not (is_ipv6 (said_by line))
 
 -- A list of entries is the lines that count, one by one. The relation tells what an entry's text means.
 abbrev pub AreEntries : {E : Type 0} → (List ℕ → Bool) → (List ℕ → E → Type 0) → List (List ℕ) → List E → Type 0
-AreEntries counts IsEntry lines entries = AllZip (λ line entry. IsEntry (said_by line) entry) (filter counts lines) entries
+AreEntries counts IsEntry lines entries =
+    AllZip (λ line entry. IsEntry (said_by line) entry) (filter counts lines) entries
 
 -- a text of patterns: a pattern in each line, and lines of IPv6 are passed over
 abbrev pub IsTextOfPatterns : List ℕ → List Pattern → Type 0

@@ -1,10 +1,13 @@
 //! VRPs as records of CSV: titles, and then an AS number, a prefix and a maximum length in each record.
 
-ghost use Rattle.std.specs.Prelude.{◌≡◌, ℕ, List, [], ◌∷◌, IfOk, MatchOption, Some, true, false};
+ghost use Rattle.std.specs.Prelude.{◌≡◌, ℕ, List, [], ◌∷◌, IfErr, IfOk, MatchOption, None, Some, true, false};
 ghost use Rattle.csv.specs.Reading.{strip_bom};
 ghost use Rattle.csv.specs.Records.{field_at, fields_of};
-ghost use Rattle.rs_import_files.specs.Csv.{AreRecordsOf, AreTitles, AreVrps, IsCsvOfVrps, IsVrpRecord, is_counted};
-ghost use Rattle.rs_import_files.specs.Rows.{Goes, HasRead};
+ghost use Rattle.rs_import_files.specs.Csv.{AreRecordsOf, AreTitles, AreVrpsBelow, IsCsvOfVrps, IsVrpRecord};
+ghost use Rattle.rs_import_files.specs.Csv.{is_counted};
+ghost use Rattle.rs_import_files.specs.Faults.{Refuses, is_of_file};
+ghost use Rattle.rs_import_files.specs.Rows.{Goes, HasRead, is_utf8_fault};
+ghost use Rattle.rs_import_files.specs.Texts.{StandsForNone};
 
 use crate::cuts::has_colon;
 use crate::fault::{Flaw, ListFault};
@@ -16,7 +19,8 @@ use std::alloc::Global;
 
 // The VRPs that octets of CSV give.
 pub(crate) fn csv_vrps(alloc: Global, octets: &[u8]) -> Result<Vec<Vrp>, ListFault>
-    ensures { IfOk result (λ vrps. IsCsvOfVrps (strip_bom octets.now) vrps.items) }
+    ensures found { IfOk result (λ vrps. IsCsvOfVrps (strip_bom octets.now) vrps.items) }
+    ensures refused { IfErr result (Refuses IsCsvOfVrps (strip_bom octets.now)) }
 {
     let mut reader = reader_of(alloc, octets);
     let mut row = StringRecord::new(alloc);
@@ -30,7 +34,9 @@ fn vrps_of(
     reader: &mut Reader<&[u8]>,
     row: &mut StringRecord,
 ) -> Result<Vec<Vrp>, ListFault>
-    ensures { IfOk result (λ vrps. (text : List ℕ) → HasRead text [] reader.old → IsCsvOfVrps text vrps.items) }
+    ensures found { IfOk result (λ vrps. (text : List ℕ) → HasRead text [] reader.old → IsCsvOfVrps text vrps.items) }
+    ensures refused { IfErr result (λ fault. (text : List ℕ) → HasRead text [] reader.old
+        → Refuses IsCsvOfVrps text fault) }
 {
     if !next_row(alloc, octets, reader, row)? {
         return Ok(Vec::new(alloc));
@@ -46,8 +52,10 @@ fn vrps_below(
     reader: &mut Reader<&[u8]>,
     row: &mut StringRecord,
 ) -> Result<Vec<Vrp>, ListFault>
-    ensures { IfOk result (λ vrps. (text : List ℕ) (titles : List (List ℕ)) → HasRead text (titles ∷ []) reader.old
-        → (rows : List (List (List ℕ))) × AreRecordsOf text (titles ∷ rows) × AreVrps rows vrps.items) }
+    ensures found { IfOk result (λ vrps. (text : List ℕ) (titles : List (List ℕ))
+        → HasRead text (titles ∷ []) reader.old → AreVrpsBelow titles text vrps.items) }
+    ensures refused { IfErr result (λ fault. (text : List ℕ) (titles : List (List ℕ))
+        → HasRead text (titles ∷ []) reader.old → Refuses (AreVrpsBelow titles) text fault) }
 {
     let mut vrps = Vec::new(alloc);
     for _turn in 0..u32::MAX {
@@ -78,8 +86,10 @@ fn next_row(
     reader: &mut Reader<&[u8]>,
     row: &mut StringRecord,
 ) -> Result<bool, ListFault>
-    ensures { IfOk result (λ found. (text : List ℕ) (records : List (List (List ℕ))) → HasRead text records reader.old
-        → Goes text records (fields_of row.new) reader.new found) }
+    ensures found { IfOk result (λ found. (text : List ℕ) (records : List (List (List ℕ)))
+        → HasRead text records reader.old → Goes text records (fields_of row.new) reader.new found) }
+    ensures refused { IfErr result (λ fault. (text : List ℕ) (records : List (List (List ℕ)))
+        → HasRead text records reader.old → Refuses AreRecordsOf text fault) }
 {
     match reader.read_record(row) {
         Ok(found) => Ok(found),
@@ -88,7 +98,9 @@ fn next_row(
 }
 
 // The fault of a record that isn't read.
-fn not_text(alloc: Global, octets: &[u8], kind: &ErrorKind) -> ListFault {
+fn not_text(alloc: Global, octets: &[u8], kind: &ErrorKind) -> ListFault
+    ensures { is_of_file result ≡ true → is_utf8_fault kind.now ≡ true }
+{
     match kind {
         ErrorKind::Utf8 { pos, .. } => not_utf8(alloc, line_of(octets, *pos)),
         _ => ListFault::Memory,
@@ -97,21 +109,24 @@ fn not_text(alloc: Global, octets: &[u8], kind: &ErrorKind) -> ListFault {
 
 // Tests that the first title is ASN.
 fn need_titles(alloc: Global, octets: &[u8], row: &StringRecord) -> Result<(), ListFault>
-    ensures { IfOk result (λ _. AreTitles (fields_of row.now)) }
+    ensures found { IfOk result (λ _. AreTitles (fields_of row.now)) }
+    ensures none { IfErr result (λ _. ¬ (AreTitles (fields_of row.now))) }
 {
     match row.get(0) {
         Some("ASN") => Ok(()),
-        _ => Err(ListFault::Line(
-            line_of(octets, row.position()),
-            String::from_str(alloc, "the first title is not ASN")?,
-        )),
+        _ => Err(Flaw::of(String::from_str(alloc, "the first title is not ASN")).on_line(line_of(
+            octets,
+            row.position(),
+        ))),
     }
 }
 
 // The VRP of a record, or none if its prefix is of IPv6.
 fn vrp_on_line(alloc: Global, octets: &[u8], row: &StringRecord) -> Result<Option<Vrp>, ListFault>
-    ensures { IfOk result (λ found. MatchOption found (is_counted (fields_of row.now) ≡ false)
+    ensures found { IfOk result (λ found. MatchOption found (is_counted (fields_of row.now) ≡ false)
         (λ vrp. (is_counted (fields_of row.now) ≡ true) × IsVrpRecord (fields_of row.now) vrp)) }
+    ensures none { IfErr result
+        (λ _. (is_counted (fields_of row.now) ≡ true) × StandsForNone IsVrpRecord (fields_of row.now)) }
 {
     match vrp_of(alloc, row) {
         Ok(found) => Ok(found),
@@ -129,25 +144,39 @@ fn line_of(octets: &[u8], position: Option<Position>) -> usize {
 
 // The VRP of a record, or none if its prefix is of IPv6.
 fn vrp_of(alloc: Global, row: &StringRecord) -> Result<Option<Vrp>, Flaw>
-    ensures { IfOk result (λ found. MatchOption found (is_counted (fields_of row.now) ≡ false)
+    ensures found { IfOk result (λ found. MatchOption found (is_counted (fields_of row.now) ≡ false)
         (λ vrp. (is_counted (fields_of row.now) ≡ true) × IsVrpRecord (fields_of row.now) vrp)) }
+    ensures none { IfErr result
+        (λ _. (is_counted (fields_of row.now) ≡ true) × StandsForNone IsVrpRecord (fields_of row.now)) }
 {
     let prefix = need_field(alloc, row, 1)?;
     if has_colon(prefix) {
         return Ok(None);
     }
-    let asn = need_number(alloc, need_field(alloc, row, 0)?)?;
-    let prefix = need_prefix(alloc, prefix)?;
-    let max_len = need_length(alloc, need_field(alloc, row, 2)?)?;
-    Ok(Some(need_vrp(alloc, asn, prefix, max_len)?))
+    Ok(Some(ipv4_vrp(alloc, row, prefix)?))
+}
+
+// The VRP of a record with a prefix of IPv4.
+fn ipv4_vrp(alloc: Global, row: &StringRecord, prefix: &str) -> Result<Vrp, Flaw>
+    requires { field_at (fields_of row.now) 1 ≡ Some prefix.now }
+    ensures found { IfOk result (IsVrpRecord (fields_of row.now)) }
+    ensures none { IfErr result (λ _. StandsForNone IsVrpRecord (fields_of row.now)) }
+{
+    let number = need_field(alloc, row, 0)?;
+    let asn = need_number(alloc, number)?;
+    let ipv4 = need_prefix(alloc, prefix)?;
+    let maximum = need_field(alloc, row, 2)?;
+    let max_len = need_length(alloc, maximum)?;
+    need_vrp(alloc, asn, ipv4, max_len)
 }
 
 // The field at a place, which must be there.
 fn need_field<'a>(alloc: Global, row: &'a StringRecord, place: usize) -> Result<&'a str, Flaw>
-    ensures { IfOk result (λ field. field_at (fields_of row.now) place ≡ Some field.now) }
+    ensures found { IfOk result (λ field. field_at (fields_of row.now) place ≡ Some field.now) }
+    ensures none { IfErr result (λ _. field_at (fields_of row.now) place ≡ None) }
 {
     match row.get(place) {
         Some(field) => Ok(field),
-        None => Err(Flaw::Reason(String::from_str(alloc, "there are fewer than three fields")?)),
+        None => Err(Flaw::of(String::from_str(alloc, "there are fewer than three fields"))),
     }
 }
