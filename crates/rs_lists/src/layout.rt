@@ -19,6 +19,12 @@ pub(crate) fn has_import_policy(plan: &Exchange) -> bool {
     plan.import().peer(0).is_some()
 }
 
+// The column of the validity by RPKI, which CSV alone has, where an exchange has VRPs.
+pub(crate) fn rpki_column(plan: &Exchange) -> Column {
+    let has_vrps = plan.import().rules().vrps.is_some();
+    shown_if(has_vrps, Column::of_csv("rpki"))
+}
+
 // The column, or one that no form has if it isn't shown.
 pub(crate) fn shown_if(shown: bool, column: Column) -> Column {
     Column {
