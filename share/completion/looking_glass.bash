@@ -11,7 +11,7 @@ _looking_glass() {
         --losses) mapfile -t COMPREPLY < <(compgen -W "recorded inferred" -- "$word"); return ;;
         --tail) mapfile -t COMPREPLY < <(compgen -W "strict lenient" -- "$word"); return ;;
         --gets) mapfile -t COMPREPLY < <(compgen -W "none" -- "$word"); return ;;
-        --because) mapfile -t COMPREPLY < <(compgen -W "ineligible server_as_in_path server_address_as_next_hop next_hop_off_exchange refused name community large_community lost preference path_length origin med identifier address" -- "$word"); return ;;
+        --because) mapfile -t COMPREPLY < <(compgen -W "ineligible server_as_in_path server_address_as_next_hop next_hop_off_exchange filtered prefix_length refused_prefix path_length_limit refused_as first_as prefix_list origin_as rpki_invalid refused name community large_community lost preference path_length origin med identifier address" -- "$word"); return ;;
         --client | --peer | --shards | --prefix | --from | --until | --at) COMPREPLY=(); return ;;
     esac
     case ${COMP_WORDS[1]} in

@@ -1,15 +1,14 @@
 -- Explanations and answers.
 use Rattle.std.proofs.Common.{◌≡◌, ap, refl, ℕ, ◌<◌, ◌==◌, Bool, true, false, not, cond, [], ◌∷◌, length, inl, inr}
 use Rattle.std.specs.Prelude.{Option, None, Some, MatchOption, is_none, ◌&&◌, ◌||◌}
-use Rattle.std.specs.Option.{is_some, option_map, option_or, option_and_then}
+use Rattle.std.specs.Option.{option_map, option_or, option_and_then}
 use Rattle.std.specs.FinMap.{get}
 use Rattle.std.proofs.lemmas.Bool.{cases_Bool}
 use Rattle.rs_update.specs.IpPrefix.{IpPrefix}
 use Rattle.rs_update.specs.AsPath.{holds_as_in}
 use Rattle.rs_update.specs.Community.{has_community_in}
 use Rattle.rs_update.specs.PathAttributes.{PathAttributes}
-use Rattle.rs_import.specs.declared.filter.Filter.{Filter}
-use Rattle.rs_choice.specs.Acceptance.{filter_on}
+use Rattle.rs_choice.specs.Acceptance.{accepts}
 use Rattle.rs_choice.specs.Eligibility.{is_eligible, is_on_exchange}
 use Rattle.rs_choice.specs.Plan.{Plan}
 use Rattle.rs_choice.specs.Policy.{has_large, is_permitted}
@@ -20,12 +19,15 @@ use Rattle.rs_table.specs.Left.{RouteLeft}
 use Rattle.rs_table.specs.Content.{TablesContent, rib_of}
 use Rattle.rs_table.specs.Table.{sent_by, best_of, is_from, why_left, why_of}
 use Rattle.rs_explain.specs.declared.condition.Condition.{Condition}
+use Rattle.rs_explain.specs.declared.filtered_by.FilteredBy.{FilteredBy}
 use Rattle.rs_explain.specs.declared.refusal.Refusal.{Refusal}
 use Rattle.rs_explain.specs.declared.explanation.Explanation.{Explanation}
 use Rattle.rs_explain.specs.declared.explanation.Explanation.TheVariants.{Own, Absent, Ineligible, Filtered, Refused, Best, Lost}
+use Rattle.rs_explain.specs.Filtered.{failed_filter}
 use Rattle.rs_explain.specs.Reasons.{first_answer, failed_condition, refusal_of}
 use Rattle.rs_explain.specs.Explanations.{answer_of, reason_of, IsDecided, IsExplanation}
 use Rattle.rs_choice.proofs.Members.{some_at}
+use Rattle.rs_explain.proofs.FilteredLemmas.{accepted_unless}
 
 by_conditions : {C : Type 0} (h n o : Bool) (a b c : C) → (not h && (not n && o))
     ≡ is_none (first_answer ((h, a) ∷ (n, b) ∷ (not o, c) ∷ []))
@@ -67,18 +69,18 @@ permitted_unless plan client number attributes client_known known differ =
     (has_large plan attributes 1 receiver.0.asn) (has_community_in attributes.communities 0 plan.local.asn)
     (has_large plan attributes 0 0) _ _ _ _ _)
 
-agree_left : (explanation : Explanation) (decided : Type 0) (otherwise : Why) (f : Option Condition) (t : Option Filter)
-    (r : Option Refusal) (eligible permitted : Bool) →
-    eligible ≡ is_none f → permitted ≡ is_none r → (decided → answer_of explanation ≡ otherwise) →
+agree_left : (explanation : Explanation) (decided : Type 0) (otherwise : Why) (f : Option Condition) (t : Option FilteredBy)
+    (r : Option Refusal) (eligible accepted permitted : Bool) →
+    eligible ≡ is_none f → accepted ≡ is_none t → permitted ≡ is_none r → (decided → answer_of explanation ≡ otherwise) →
     MatchOption (option_or (option_map (λ condition. Ineligible condition) f)
-    (option_or (option_map (λ filter. Filtered filter) t) (option_map (λ refusal. Refused refusal) r))) decided
+    (option_or (option_map (λ failed. Filtered failed) t) (option_map (λ refusal. Refused refusal) r))) decided
     (λ reason. explanation ≡ reason) →
     answer_of explanation ≡ cond (not eligible) answers.Ineligible
-    (cond (not (not (is_some t))) answers.Filtered (cond (not permitted) answers.Refused otherwise))
-agree_left explanation decided otherwise (Some condition) t r eligible permitted e p says h = rw e (ap answer_of h)
-agree_left explanation decided otherwise None (Some filter) r eligible permitted e p says h = rw e (ap answer_of h)
-agree_left explanation decided otherwise None None (Some refusal) eligible permitted e p says h = rw (e, p) (ap answer_of h)
-agree_left explanation decided otherwise None None None eligible permitted e p says h = rw (e, p) (says h)
+    (cond (not accepted) answers.Filtered (cond (not permitted) answers.Refused otherwise))
+agree_left explanation decided otherwise (Some condition) t r eligible accepted permitted e a p says h = rw e (ap answer_of h)
+agree_left explanation decided otherwise None (Some failed) r eligible accepted permitted e a p says h = rw (e, a) (ap answer_of h)
+agree_left explanation decided otherwise None None (Some refusal) eligible accepted permitted e a p says h = rw (e, a, p) (ap answer_of h)
+agree_left explanation decided otherwise None None None eligible accepted permitted e a p says h = rw (e, a, p) (says h)
 
 agree_decided : (tables : TablesContent) (client peer : ℕ) (prefix : IpPrefix) (explanation : Explanation)
     → IsDecided tables client peer prefix explanation →
@@ -86,7 +88,7 @@ agree_decided : (tables : TablesContent) (client peer : ℕ) (prefix : IpPrefix)
 agree_decided tables client peer prefix Own h = absurd h
 agree_decided tables client peer prefix Absent h = absurd h
 agree_decided tables client peer prefix (Ineligible condition) h = absurd h
-agree_decided tables client peer prefix (Filtered filter) h = absurd h
+agree_decided tables client peer prefix (Filtered failed) h = absurd h
 agree_decided tables client peer prefix (Refused refusal) h = absurd h
 agree_decided tables client peer prefix (Best beaten) h = rw h.0 refl
 agree_decided tables client peer prefix (Lost removal) h = let gets = h.gets in let another = h.another in rw (gets, another) refl
@@ -101,10 +103,12 @@ module _ (tables : TablesContent) (client peer : ℕ) (prefix : IpPrefix) (expla
   agree_other (Some route) differ h =
       agree_left explanation (IsDecided tables client peer prefix explanation)
       (cond (is_from peer (best_of tables client prefix)) answers.Best answers.Lost)
-      (failed_condition tables.plan peer route.attributes) (filter_on tables.plan peer prefix route.attributes)
+      (failed_condition tables.plan peer route.attributes) (failed_filter tables.plan peer prefix route.attributes)
       (refusal_of tables.plan client peer route.attributes)
-      (is_eligible tables.plan peer route.attributes) (is_permitted tables.plan client peer route.attributes)
+      (is_eligible tables.plan peer route.attributes) (accepts tables.plan peer prefix route.attributes)
+      (is_permitted tables.plan client peer route.attributes)
       (eligible_unless tables.plan peer route.attributes known)
+      (accepted_unless tables.plan peer prefix route.attributes)
       (permitted_unless tables.plan client peer route.attributes client_known known differ)
       (agree_decided tables client peer prefix explanation) h
 

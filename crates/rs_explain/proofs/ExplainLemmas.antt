@@ -1,12 +1,11 @@
 -- A route of another peer is explained by the reason why it is no candidate, or by what is decided: for explanation.rt.
-use Rattle.std.proofs.Common.{◌≡◌, ◌∙◌, sym, ap, refl, ℕ, ◌<◌, ◌==◌, true, false, not, length}
+use Rattle.std.proofs.Common.{◌≡◌, ◌∙◌, sym, ap, refl, ℕ, ◌<◌, ◌==◌, true, false, length}
 use Rattle.std.specs.Prelude.{Option, None, Some, is_none}
 use Rattle.std.specs.FinMap.{get}
-use Rattle.std.specs.Option.{is_some, option_map, option_or}
+use Rattle.std.specs.Option.{option_map, option_or}
 use Rattle.rs_update.specs.IpPrefix.{IpPrefix}
 use Rattle.rs_choice.specs.Decision.{SentRoute}
-use Rattle.rs_import.specs.declared.filter.Filter.{Filter}
-use Rattle.rs_choice.specs.Acceptance.{accepts, filter_on}
+use Rattle.rs_choice.specs.Acceptance.{accepts}
 use Rattle.rs_choice.specs.Eligibility.{is_eligible}
 use Rattle.rs_choice.specs.Plan.{Plan}
 use Rattle.rs_choice.specs.Policy.{is_permitted}
@@ -16,20 +15,23 @@ use Rattle.rs_explain.specs.declared.condition.Condition.{Condition}
 use Rattle.rs_explain.specs.declared.contender.Contender.{Contender}
 use Rattle.rs_explain.specs.declared.explanation.Explanation.{Explanation}
 use Rattle.rs_explain.specs.declared.explanation.Explanation.TheVariants.{Ineligible, Filtered, Refused}
+use Rattle.rs_explain.specs.declared.filtered_by.FilteredBy.{FilteredBy}
 use Rattle.rs_explain.specs.declared.refusal.Refusal.{Refusal}
 use Rattle.rs_explain.specs.Contenders.{contender_from, contender_of}
 use Rattle.rs_explain.specs.Explanations.{reason_before_decision, reason_of, IsDecided, IsExplanation}
+use Rattle.rs_explain.specs.Filtered.{failed_filter}
 use Rattle.rs_explain.specs.Reasons.{failed_condition, refusal_of}
 use Rattle.rs_explain.proofs.AgreementLemmas.{eligible_unless, permitted_unless}
+use Rattle.rs_explain.proofs.FilteredLemmas.{accepted_unless}
 use Rattle.rs_explain.proofs.ContenderLemmas.{made_from, route_peer, some_permitted}
 
-no_reasons : (f : Option Condition) (t : Option Filter) (r : Option Refusal) →
+no_reasons : (f : Option Condition) (t : Option FilteredBy) (r : Option Refusal) →
     option_or (option_map (λ condition. Ineligible condition) f)
-    (option_or (option_map (λ filter. Filtered filter) t) (option_map (λ refusal. Refused refusal) r)) ≡ None →
+    (option_or (option_map (λ failed. Filtered failed) t) (option_map (λ refusal. Refused refusal) r)) ≡ None →
     (f ≡ None) × (t ≡ None) × (r ≡ None)
 no_reasons None None None is = (refl, refl, refl)
 no_reasons None None (Some refusal) is = absurd (cc is)
-no_reasons None (Some filter) r is = absurd (cc is)
+no_reasons None (Some failed) r is = absurd (cc is)
 no_reasons (Some condition) t r is = absurd (cc is)
 
 module _ (tables : TablesContent) (client peer : ℕ) (prefix : IpPrefix) where
@@ -57,9 +59,10 @@ module _ (tables : TablesContent) (client peer : ℕ) (prefix : IpPrefix) where
       (client == peer) ≡ false → Some route ≡ route_from tables prefix peer → reason_before_decision tables client peer prefix ≡ None →
       plan ≡ tables.plan → one ≡ contender_of plan route → contender_from tables client prefix one.peer ≡ Some one
   candidate_is plan route one client_known known differ is none same made =
-      let reasons = no_reasons (failed_condition tables.plan peer route.attributes) (filter_on tables.plan peer prefix route.attributes)
+      let reasons = no_reasons (failed_condition tables.plan peer route.attributes) (failed_filter tables.plan peer prefix route.attributes)
       (refusal_of tables.plan client peer route.attributes) (ap (reason_of tables.plan client peer prefix) is ∙ rw differ at none) in
-      let accepted : accepts tables.plan peer prefix route.attributes ≡ true = ap (λ (t : Option Filter). not (is_some t)) reasons.1 in
+      let accepted : accepts tables.plan peer prefix route.attributes ≡ true =
+      accepted_unless tables.plan peer prefix route.attributes ∙ ap is_none reasons.1 in
       let eligible : is_eligible tables.plan peer route.attributes ≡ true =
       eligible_unless tables.plan peer route.attributes known ∙ ap is_none reasons.0 in
       let permitted : is_permitted tables.plan client peer route.attributes ≡ true =

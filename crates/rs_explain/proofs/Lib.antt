@@ -1,4 +1,5 @@
 pub mod ReasonLemmas
+pub mod FilteredLemmas
 pub mod RemovalLemmas
 pub mod BeatenLemmas
 pub mod ContenderLemmas

@@ -6,8 +6,6 @@ use Rattle.std.specs.Option.{option_map, option_or}
 use Rattle.std.specs.FinMap.{get}
 use Rattle.std.proofs.lemmas.Bool.{cond_both}
 use Rattle.rs_update.specs.IpPrefix.{IpPrefix}
-use Rattle.rs_import.specs.declared.filter.Filter.{Filter}
-use Rattle.rs_choice.specs.Acceptance.{filter_on}
 use Rattle.rs_choice.specs.declared.step.Step.{Step}
 use Rattle.rs_choice.specs.Decision.{beats, remaining, SentRoute}
 use Rattle.rs_choice.specs.Naturality.{choice-Contains}
@@ -15,11 +13,13 @@ use Rattle.rs_table.specs.Left.{RouteLeft}
 use Rattle.rs_table.specs.Content.{TablesContent, rib_of}
 use Rattle.rs_table.specs.Table.{sent_by, candidates_of, best_of}
 use Rattle.rs_explain.specs.declared.condition.Condition.{Condition}
+use Rattle.rs_explain.specs.declared.filtered_by.FilteredBy.{FilteredBy}
 use Rattle.rs_explain.specs.declared.refusal.Refusal.{Refusal}
 use Rattle.rs_explain.specs.declared.removal.Removal.{Removal}
 use Rattle.rs_explain.specs.declared.explanation.Explanation.TheVariants.{Own, Ineligible, Filtered, Refused, Lost}
 use Rattle.rs_explain.specs.Contenders.{contender_of, contenders_of, standing_in}
 use Rattle.rs_explain.specs.Explanations.{reason_of, IsLoss, IsExplanation}
+use Rattle.rs_explain.specs.Filtered.{failed_filter}
 use Rattle.rs_explain.specs.Reasons.{failed_condition, refusal_of}
 use Rattle.rs_choice.proofs.Eliminations.{remaining_among}
 use Rattle.rs_choice.proofs.Members.{Mem, contains-mem, mem-contains, mem_of-map}
@@ -34,12 +34,12 @@ mem-find p (y ∷ ys) x found = cond_both (p y) (Some y) (find p ys) (λ found. 
     (λ fails later. let found = mem-find p ys x later in (inr found.0, found.1))
     found
 
-loss_reasons : (decided : Type 0) (removal : Removal) (f : Option Condition) (t : Option Filter) (r : Option Refusal) →
+loss_reasons : (decided : Type 0) (removal : Removal) (f : Option Condition) (t : Option FilteredBy) (r : Option Refusal) →
     MatchOption (option_or (option_map (λ condition. Ineligible condition) f)
-    (option_or (option_map (λ filter. Filtered filter) t) (option_map (λ refusal. Refused refusal) r))) decided
+    (option_or (option_map (λ failed. Filtered failed) t) (option_map (λ refusal. Refused refusal) r))) decided
     (λ reason. Lost removal ≡ reason) → decided
 loss_reasons decided removal (Some condition) t r h = absurd (cc (h))
-loss_reasons decided removal None (Some filter) r h = absurd (cc (h))
+loss_reasons decided removal None (Some failed) r h = absurd (cc (h))
 loss_reasons decided removal None None (Some refusal) h = absurd (cc (h))
 loss_reasons decided removal None None None h = h
 
@@ -50,7 +50,7 @@ module _ (tables : TablesContent) (client peer : ℕ) (prefix : IpPrefix) (remov
   loss_left None h = absurd (cc (h))
   loss_left (Some route) h =
       loss_reasons (IsLoss tables client peer prefix removal) removal (failed_condition tables.plan peer route.attributes)
-      (filter_on tables.plan peer prefix route.attributes) (refusal_of tables.plan client peer route.attributes) h
+      (failed_filter tables.plan peer prefix route.attributes) (refusal_of tables.plan client peer route.attributes) h
 
   loss_if : (own : Bool) → MatchOption (if own then Some Own
       else reason_of tables.plan client peer prefix (option_map (sent_by peer) (get (rib_of tables peer).routes prefix)))

@@ -5,7 +5,6 @@ use Rattle.std.specs.Prelude.{MatchOption}
 use Rattle.std.specs.Option.{option_map, option_or}
 use Rattle.rs_update.specs.IpPrefix.{IpPrefix}
 use Rattle.rs_choice.specs.Decision.{decision_steps, SentRoute}
-use Rattle.rs_choice.specs.Acceptance.{filter_on}
 use Rattle.rs_choice.specs.Plan.{Plan}
 use Rattle.rs_table.specs.declared.why.Why.{Why}
 use Rattle.rs_table.specs.declared.why.Why.TheVariants as answers
@@ -16,16 +15,17 @@ use Rattle.rs_explain.specs.declared.explanation.Explanation.{Explanation}
 use Rattle.rs_explain.specs.declared.explanation.Explanation.TheVariants.{Own, Absent, Ineligible, Filtered, Refused, Best, Lost}
 use Rattle.rs_explain.specs.declared.removal.Removal.{Removal}
 use Rattle.rs_explain.specs.Contenders.{contender_of, contender_from, contenders_of}
+use Rattle.rs_explain.specs.Filtered.{failed_filter}
 use Rattle.rs_explain.specs.Reasons.{failed_condition, refusal_of}
 use Rattle.rs_explain.specs.Removals.{IsRemoval}
 
 -- Why a route is no candidate; None if it is one. The first that applies counts: a condition of eligibility that it
--- fails, a filter that does not take it in, a rule that refuses it.
+-- fails, a condition of import policy that it fails, a rule that refuses it.
 abbrev pub reason_of : Plan → ℕ → ℕ → IpPrefix → Option SentRoute → Option Explanation
 reason_of plan client peer prefix None = Some Absent
 reason_of plan client peer prefix (Some route) =
     option_or (option_map (λ condition. Ineligible condition) (failed_condition plan peer route.attributes))
-    (option_or (option_map (λ filter. Filtered filter) (filter_on plan peer prefix route.attributes))
+    (option_or (option_map (λ failed. Filtered failed) (failed_filter plan peer prefix route.attributes))
     (option_map (λ refusal. Refused refusal) (refusal_of plan client peer route.attributes)))
 
 abbrev pub reason_before_decision : TablesContent → ℕ → ℕ → IpPrefix → Option Explanation
@@ -51,7 +51,7 @@ abbrev pub IsDecided : TablesContent → ℕ → ℕ → IpPrefix → Explanatio
 IsDecided tables client peer prefix Own = ⊥
 IsDecided tables client peer prefix Absent = ⊥
 IsDecided tables client peer prefix (Ineligible condition) = ⊥
-IsDecided tables client peer prefix (Filtered filter) = ⊥
+IsDecided tables client peer prefix (Filtered failed) = ⊥
 IsDecided tables client peer prefix (Refused refusal) = ⊥
 IsDecided tables client peer prefix (Best beaten) =
     (is_from peer (best_of tables client prefix) ≡ true)
@@ -69,7 +69,7 @@ abbrev pub answer_of : Explanation → Why
 answer_of Own = answers.Own
 answer_of Absent = answers.Absent
 answer_of (Ineligible condition) = answers.Ineligible
-answer_of (Filtered filter) = answers.Filtered
+answer_of (Filtered failed) = answers.Filtered
 answer_of (Refused refusal) = answers.Refused
 answer_of (Best beaten) = answers.Best
 answer_of (Lost removal) = answers.Lost

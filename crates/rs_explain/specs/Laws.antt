@@ -1,8 +1,12 @@
 -- Laws of explanations.
 use Rattle.std.specs.Prelude.{◌≡◌, ◌<◌, ℕ, false, IsTrue, List, length}
 use Rattle.std.specs.List.{list_any, Contains}
+use Rattle.std.specs.Option.{option_map}
 use Rattle.rs_update.specs.IpPrefix.{IpPrefix}
+use Rattle.rs_update.specs.PathAttributes.{PathAttributes}
+use Rattle.rs_choice.specs.Acceptance.{filter_on}
 use Rattle.rs_choice.specs.Decision.{beats, SentRoute}
+use Rattle.rs_choice.specs.Plan.{Plan}
 use Rattle.rs_table.specs.Content.{TablesContent}
 use Rattle.rs_table.specs.Table.{candidates_of, why_of}
 use Rattle.rs_explain.specs.declared.explanation.Explanation.{Explanation}
@@ -10,6 +14,7 @@ use Rattle.rs_explain.specs.declared.explanation.Explanation.TheVariants.{Lost}
 use Rattle.rs_explain.specs.declared.removal.Removal.{Removal}
 use Rattle.rs_explain.specs.Contenders.{contender_of}
 use Rattle.rs_explain.specs.Explanations.{answer_of, IsExplanation}
+use Rattle.rs_explain.specs.Filtered.{failed_filter, filter_in}
 use Rattle.rs_session.specs.Change.{Change}
 use Rattle.rs_table.specs.Left.{drops_routes, Leaves, RouteLeft}
 use Rattle.rs_explain.specs.declared.last_said.Ending.{Ending}
@@ -22,6 +27,12 @@ ExplanationAgrees =
     (tables : TablesContent) (client peer : ℕ) (prefix : IpPrefix) (explanation : Explanation) →
     client < length tables.plan.peers → peer < length tables.plan.peers →
     IsExplanation tables client peer prefix explanation → answer_of explanation ≡ why_of tables client peer prefix
+
+-- each filter that does not take a route in has a value, and the condition with this value is of that filter
+abbrev pub FilterHasValue : Type 0
+FilterHasValue =
+    (plan : Plan) (number : ℕ) (prefix : IpPrefix) (attributes : PathAttributes)
+    → option_map filter_in (failed_filter plan number prefix attributes) ≡ filter_on plan number prefix attributes
 
 -- The peer that is named as the rival of a route has a route on the prefix. That route is a candidate of the client
 -- too, and beats the first one.

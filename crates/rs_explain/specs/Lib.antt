@@ -1,6 +1,7 @@
 -- Why a client gets a route or not:
 pub mod LastSaid  -- what a list of changes says last of a prefix
 pub mod Reasons  -- the condition or rule that stops a route
+pub mod Filtered  -- the condition of import policy that does, with its value
 pub mod Removals  -- the step that removes a candidate
 pub mod Explanations  -- the first case that holds
 pub mod MissingReasons  -- the reason for which a client does not get a route

@@ -8,6 +8,7 @@ use Rattle.rs_explain.specs.declared.missing_reason.MissingReason.TheVariants.{R
 use Rattle.rs_explain.specs.declared.missing_reason.MissingReason.TheVariants.{RefusedByLargeCommunity, Lost}
 use Rattle.rs_explain.specs.declared.refusal.Refusal.{Refusal}
 use Rattle.rs_explain.specs.declared.refusal.Refusal.TheVariants.{ByName, ToClient, LargeToClient, ToAll, LargeToAll}
+use Rattle.rs_explain.specs.Filtered.{filter_in}
 use Rattle.rs_explain.specs.Reasons.{kind_of}
 
 -- a refusing rule as a reason
@@ -23,7 +24,7 @@ abbrev pub reason_in : Explanation → Option MissingReason
 reason_in explanations.Own = None
 reason_in explanations.Absent = None
 reason_in (explanations.Ineligible condition) = Some (Ineligible (kind_of condition))
-reason_in (explanations.Filtered filter) = Some (Filtered filter)
+reason_in (explanations.Filtered failed) = Some (Filtered (filter_in failed))
 reason_in (explanations.Refused refusal) = Some (reason_of_refusal refusal)
 reason_in (explanations.Best beaten) = None
 reason_in (explanations.Lost removal) = Some (Lost removal.step)

@@ -11,10 +11,10 @@ ghost use Rattle.rs_explain.specs.Contenders.{contender_from, contender_of};
 
 use crate::condition::{Condition, failed_condition};
 use crate::contender::{Contender, contender_of, contenders};
+use crate::filtered_by::{FilteredBy, failed_filter};
 use crate::refusal::{Refusal, refusing_rule};
 use crate::removal::{Removal, STEPS, removed_by};
 use rs_choice::{Exchange, peers_have_addresses_of_their_own, the_choice_is_unbeaten};
-use rs_import::Filter;
 use rs_table::{PrefixRoutes, Route, Tables};
 use rs_update::Prefix;
 use std::alloc::{AllocError, Global};
@@ -29,7 +29,7 @@ pub enum Explanation {
     /// The peer's route isn't eligible (RFC 4271, sections 6.3 and 9.1.2): the first condition that it fails.
     Ineligible(Condition),
     /// Import policy doesn't take the peer's route in (RFC 4271, section 9.1.1): the first condition that it fails.
-    Filtered(Filter),
+    Filtered(FilteredBy),
     /// Export policy refuses the peer's route to the client (RFC 7947, section 2.3): the rule that refuses it.
     Refused(Refusal),
     /// The client's table has the peer's route: the numbers of the peers whose routes it beat, all other
@@ -176,8 +176,8 @@ fn reason(plan: &Exchange, client: usize, prefix: Prefix, route: &Route) -> Opti
     if let Some(condition) = failed_condition(plan, route.peer, route.attributes) {
         return Some(Explanation::Ineligible(condition));
     }
-    if let Some(filter) = plan.filter(route.peer, prefix, route.attributes) {
-        return Some(Explanation::Filtered(filter));
+    if let Some(failed) = failed_filter(plan, route.peer, prefix, route.attributes) {
+        return Some(Explanation::Filtered(failed));
     }
     let refusal = refusing_rule(plan, client, route.peer, route.attributes)?;
     Some(Explanation::Refused(refusal))

@@ -1,11 +1,17 @@
 //! Laws of this crate's definitions. Each function does nothing: its contract is the law.
 
-ghost use Rattle.rs_explain.specs.Laws.{AnnouncedIsLeft, EndedIsNotLeft, ExplanationAgrees, NeverAnnouncedIsNotLeft};
-ghost use Rattle.rs_explain.specs.Laws.{RivalIsCandidate};
+ghost use Rattle.rs_explain.specs.Laws.{AnnouncedIsLeft, EndedIsNotLeft, ExplanationAgrees, FilterHasValue};
+ghost use Rattle.rs_explain.specs.Laws.{NeverAnnouncedIsNotLeft, RivalIsCandidate};
 
 /// An explanation agrees with what `Tables::why` answers.
 pub fn an_explanation_agrees_with_why()
     ensures { ExplanationAgrees }
+{}
+
+/// Each route that import policy doesn't take in is explained by the filter that `Exchange::filter` answers, with a
+/// value.
+pub fn a_filtered_route_has_its_filter_and_a_value()
+    ensures { FilterHasValue }
 {}
 
 /// An explanation names a peer as the rival of a route. That peer has a route on the prefix, which is a candidate of

@@ -37,7 +37,7 @@ impl MissingReason {
             Explanation::Ineligible(condition) => {
                 Some(MissingReason::Ineligible(condition.kind()))
             }
-            Explanation::Filtered(filter) => Some(MissingReason::Filtered(*filter)),
+            Explanation::Filtered(failed) => Some(MissingReason::Filtered(failed.filter())),
             Explanation::Refused(refusal) => Some(reason_of_refusal(*refusal)),
             Explanation::Best(_) => None,
             Explanation::Lost(removal) => Some(MissingReason::Lost(removal.step)),

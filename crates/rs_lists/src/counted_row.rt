@@ -2,17 +2,14 @@
 
 ghost use Rattle.std.specs.Prelude.{◌<◌};
 
-use crate::layout::{ANSWER_WIDTH, AS_WIDTH};
+use crate::layout::{ANSWER_WIDTH, AS_WIDTH, REASON_WIDTH};
 use crate::wanted::Wanted;
 use rs_choice::{Exchange, Step};
 use rs_explain::{ConditionKind, MissingReason};
 use rs_glass_shell::{hand_peer, name_width, reason_answer, reason_key};
 use rs_rows::{Column, Form, RowWriter};
-use rs_survey::{Finding, Tally};
+use rs_survey::{Filter, Finding, Tally};
 use std::alloc::{AllocError, Global};
-
-// How wide the column of reasons is.
-const REASON_WIDTH: usize = 28;
 
 // The columns, with that of peers so wide.
 fn count_columns(names: usize) -> [Column; 5] {
@@ -26,10 +23,18 @@ fn count_columns(names: usize) -> [Column; 5] {
 }
 
 // The reasons, in the order in which they are listed. The row of communities counts large ones too.
-const REASONS: [MissingReason; 11] = [
+const REASONS: [MissingReason; 19] = [
     MissingReason::Ineligible(ConditionKind::OwnAs),
     MissingReason::Ineligible(ConditionKind::ServerAsNextHop),
     MissingReason::Ineligible(ConditionKind::NextHopOffExchange),
+    MissingReason::Filtered(Filter::PrefixLength),
+    MissingReason::Filtered(Filter::RefusedPrefix),
+    MissingReason::Filtered(Filter::PathLengthLimit),
+    MissingReason::Filtered(Filter::RefusedAs),
+    MissingReason::Filtered(Filter::FirstAs),
+    MissingReason::Filtered(Filter::PrefixList),
+    MissingReason::Filtered(Filter::OriginAs),
+    MissingReason::Filtered(Filter::RpkiInvalid),
     MissingReason::RefusedByName,
     MissingReason::RefusedByCommunity,
     MissingReason::Lost(Step::Preference),

@@ -9,7 +9,7 @@ use crate::table_row::{hand_table_row, table_columns};
 use crate::wanted::Wanted;
 use rs_choice::Exchange;
 use rs_glass_shell::{
-    Down, Known, Reply, Unanswered, Whose, add_down, answer_with, name_width, peer_named, served,
+    Down, Known, Reply, Unanswered, Whose, add_down, answer_with, peer_named, served,
 };
 use rs_host::configuration;
 use rs_query::{MissingQuery, SummaryQuery, TableQuery};
@@ -152,7 +152,7 @@ fn list_table<R: AllocGlobal + Print>(
     asked: &AskedRows,
     form: Form,
 ) -> Result<String, Unanswered> {
-    let columns = table_columns(name_width(tables.plan(), "peer"));
+    let columns = table_columns(tables.plan());
     let mut rows = RowWriter::new(rt.alloc(), form, &columns);
     if let Some(down) = known.session(client).down {
         rows.sentence(down_line(rt.alloc(), tables.plan(), client, down));

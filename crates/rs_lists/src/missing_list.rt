@@ -11,7 +11,7 @@ use crate::list_answering::print_page;
 use crate::missing_row::{hand_missing, missing_columns};
 use crate::wanted::Wanted;
 use rs_explain::MissingReason;
-use rs_glass_shell::{PeerSession, Unanswered, name_width};
+use rs_glass_shell::{PeerSession, Unanswered};
 use rs_rows::{Column, Form, RowWriter};
 use rs_survey::{MissingOn, every_prefix, missing_on};
 use rs_table::{PrefixRoutes, Route, Tables};
@@ -51,7 +51,7 @@ pub(crate) fn list_missing<R: AllocGlobal + Print + Threads + Sync>(
     requires { client < length tables.now.plan.peers }
 {
     let alloc = rt.alloc();
-    let columns = missing_columns(name_width(tables.plan(), "peer"));
+    let columns = missing_columns(tables.plan());
     let listing = Listing {
         alloc,
         tables,

@@ -1,17 +1,18 @@
 //! A route that a client does not get, as a row of a list. As a text it is short: the path attributes are in CSV and JSON.
 
-use crate::layout::{ANSWER_WIDTH, AS_WIDTH, PREFIX_WIDTH};
+use crate::layout::{ANSWER_WIDTH, AS_WIDTH, PREFIX_WIDTH, rpki_column};
 use rs_choice::Exchange;
 use rs_glass_shell::{
     Because, DOUBT, PrefixText, answer_name, hand_attributes, hand_doubt, hand_peer, hand_reason,
-    peer_name,
+    hand_rpki, name_width, peer_name,
 };
 use rs_rows::{Column, Form, RowWriter};
 use rs_survey::{MissingOn, MissingRoute};
 use rs_table::Route;
 
-// The columns, with those of peers so wide.
-pub(crate) fn missing_columns(names: usize) -> [Column; 15] {
+// The columns.
+pub(crate) fn missing_columns(plan: &Exchange) -> [Column; 16] {
+    let names = name_width(plan, "peer");
     [
         Column::new("prefix", "prefix", PREFIX_WIDTH),
         Column::new("peer", "peer", names),
@@ -27,6 +28,7 @@ pub(crate) fn missing_columns(names: usize) -> [Column; 15] {
         Column::of_csv("med"),
         Column::of_csv("communities"),
         Column::of_csv("large_communities"),
+        rpki_column(plan),
         Column::of_text(DOUBT, "", 0),
     ]
 }
@@ -47,16 +49,18 @@ pub(crate) fn hand_missing(
     rows.number("time", u64::from(one.route.time));
     rows.text_or("best", peer_name(plan, best_peer(&on.best)), "none");
     rows.text("answer", answer_name(explanation));
-    hand_reason(rows, plan, peer, explanation);
+    hand_reason(rows, plan, peer, on.prefix, explanation);
     let because = Because {
         plan,
         client,
         peer,
+        prefix: on.prefix,
         explanation,
     };
     rows.shown_words("because", &because);
     if rows.form() != Form::Text {
         hand_attributes(rows, one.route.attributes);
+        hand_rpki(rows, plan, on.prefix, one.route.attributes);
     }
     hand_doubt(rows, again);
     rows.end_row();

@@ -6,19 +6,15 @@ use rs_explain::ConditionKind;
 use rs_query::reason_names::{
     NEXT_HOP_OFF_EXCHANGE, SERVER_ADDRESS_AS_NEXT_HOP, SERVER_AS_IN_PATH,
 };
-use rs_survey::{Finding, Tally};
+use rs_survey::{FILTERS, Finding, Tally};
 
 // A number by its key.
 pub(crate) type Number = (&'static str, u64);
 
-// The numbers of a peer as a sender.
-pub(crate) fn of_peer(tally: &Tally, peer: usize) -> [Number; 7]
+// How many routes a peer has left, and how many of them are not eligible, by the first condition that they fail.
+pub(crate) fn of_peer(tally: &Tally, peer: usize) -> [Number; 4]
     requires { peer < tally.now.peers }
 {
-    let mut at_clients = [0; 3];
-    for client in 0..tally.peers() {
-        add_pair(&mut at_clients, &of_pair(tally, client, peer));
-    }
     [
         ("left", tally.count(Finding::Left(peer))),
         (
@@ -33,9 +29,6 @@ pub(crate) fn of_peer(tally: &Tally, peer: usize) -> [Number; 7]
             NEXT_HOP_OFF_EXCHANGE,
             ineligible(tally, peer, ConditionKind::NextHopOffExchange),
         ),
-        ("refused", at_clients[0]),
-        ("lost", at_clients[1]),
-        ("best", at_clients[2]),
     ]
 }
 
@@ -44,6 +37,28 @@ fn ineligible(tally: &Tally, peer: usize, condition: ConditionKind) -> u64
     requires { peer < tally.now.peers }
 {
     tally.count(Finding::Ineligible(peer, condition))
+}
+
+// How many eligible routes of a peer import policy does not take in.
+pub(crate) fn filtered(tally: &Tally, peer: usize) -> u64
+    requires { peer < tally.now.peers }
+{
+    let mut sum: u64 = 0;
+    for filter in FILTERS {
+        sum = sum.saturating_add(tally.count(Finding::Filtered(peer, filter)));
+    }
+    sum
+}
+
+// The numbers of a sender and all clients.
+pub(crate) fn at_all_clients(tally: &Tally, peer: usize) -> [Number; 3]
+    requires { peer < tally.now.peers }
+{
+    let mut sums = [0; 3];
+    for client in 0..tally.peers() {
+        add_pair(&mut sums, &of_pair(tally, client, peer));
+    }
+    [("refused", sums[0]), ("lost", sums[1]), ("best", sums[2])]
 }
 
 // Adds the numbers of a client and a sender to sums.

@@ -2,31 +2,34 @@
 
 ghost use Rattle.std.specs.Prelude.{◌<◌};
 
-use crate::layout::AS_WIDTH;
-use crate::summary_numbers::{of_pair, of_peer};
+use crate::layout::{AS_WIDTH, REASON_WIDTH, has_import_policy, shown_if};
+use crate::summary_numbers::{at_all_clients, filtered, of_pair, of_peer};
 use rs_choice::{Exchange, Step};
-use rs_glass_shell::{hand_peer, name_at, step_key};
+use rs_glass_shell::{hand_peer, name_at, name_width, reason_key, step_key};
 use rs_query::reason_names::{
-    NEXT_HOP_OFF_EXCHANGE, SERVER_ADDRESS_AS_NEXT_HOP, SERVER_AS_IN_PATH,
+    FILTERED, NEXT_HOP_OFF_EXCHANGE, SERVER_ADDRESS_AS_NEXT_HOP, SERVER_AS_IN_PATH,
 };
 use rs_rows::{Column, RowWriter};
-use rs_survey::{Finding, Tally};
+use rs_survey::{FILTERS, Finding, MissingReason, Tally};
 
 // How wide a column of numbers is.
 pub(crate) const NUMBER_WIDTH: usize = 11;
 
-// The columns, with that of peers so wide. In text they are those of the table of peers.
-pub(crate) fn summary_columns(names: usize) -> [Column; 13] {
+// The columns. In text they are those of the table of peers.
+pub(crate) fn summary_columns(plan: &Exchange) -> [Column; 15] {
+    let (names, filters) = (name_width(plan, "peer"), has_import_policy(plan));
     [
         Column::of_csv("kind"),
         Column::of_csv("client"),
         Column::new("peer", "peer", names),
         Column::new("as", "AS", AS_WIDTH),
         Column::of_csv("step"),
+        shown_if(filters, Column::of_csv("reason")),
         Column::new("left", "left", NUMBER_WIDTH),
         Column::new(SERVER_AS_IN_PATH, "server AS", NUMBER_WIDTH),
         Column::new(SERVER_ADDRESS_AS_NEXT_HOP, "server hop", NUMBER_WIDTH),
         Column::new(NEXT_HOP_OFF_EXCHANGE, "off subnet", NUMBER_WIDTH),
+        shown_if(filters, Column::new(FILTERED, "filtered", NUMBER_WIDTH)),
         Column::new("refused", "refused", NUMBER_WIDTH),
         Column::new("lost", "lost", NUMBER_WIDTH),
         Column::new("best", "best", 0),
@@ -43,7 +46,39 @@ pub(crate) fn hand_sender(rows: &mut RowWriter<'_>, plan: &Exchange, tally: &Tal
     for (key, number) in of_peer(tally, peer) {
         rows.number(key, number);
     }
+    if has_import_policy(plan) {
+        rows.number(FILTERED, filtered(tally, peer));
+    }
+    for (key, number) in at_all_clients(tally, peer) {
+        rows.number(key, number);
+    }
     rows.end_row();
+}
+
+// The columns of the table of filters, in text.
+pub(crate) fn filter_columns(plan: &Exchange) -> [Column; 4] {
+    [
+        Column::new("peer", "peer", name_width(plan, "peer")),
+        Column::new("as", "AS", AS_WIDTH),
+        Column::new("reason", "reason", REASON_WIDTH),
+        Column::new(FILTERED, "routes", 0),
+    ]
+}
+
+// Hands over how many routes of a peer each filter does not take in, if there are any.
+pub(crate) fn hand_filters(rows: &mut RowWriter<'_>, plan: &Exchange, tally: &Tally, peer: usize)
+    requires { peer < tally.now.peers }
+{
+    for filter in FILTERS {
+        let count = tally.count(Finding::Filtered(peer, filter));
+        if count > 0 {
+            rows.text("kind", "filter");
+            hand_peer(rows, plan, peer);
+            rows.text("reason", reason_key(MissingReason::Filtered(filter)));
+            rows.number(FILTERED, count);
+            rows.end_row();
+        }
+    }
 }
 
 // Hands over what becomes of the routes of a peer at a client.

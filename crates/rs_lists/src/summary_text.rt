@@ -1,9 +1,11 @@
-//! A summary of whole tables: as rows, or as a text of four tables.
+//! A summary of whole tables: as rows, or as a text of four tables, and of one more if there is an import policy.
 
 ghost use Rattle.std.specs.Prelude.{◌<◌};
 
+use crate::layout::has_import_policy;
 use crate::summary_row::{
-    NUMBER_WIDTH, hand_hidden, hand_pair, hand_sender, hand_step, summary_columns,
+    NUMBER_WIDTH, filter_columns, hand_filters, hand_hidden, hand_pair, hand_sender, hand_step,
+    summary_columns,
 };
 use rs_choice::Exchange;
 use rs_explain::STEPS;
@@ -15,6 +17,10 @@ use std::alloc::{AllocError, Global};
 // How wide the column of steps is.
 const STEP_WIDTH: usize = 14;
 
+// The title of the table of filters.
+const FILTERS_TITLE: &str =
+    "filtered: routes that import policy does not take in, by sender and reason\n";
+
 // The summary, in the form that is asked for. A text begins with the sessions that are down.
 pub(crate) fn summary_answer(
     alloc: Global,
@@ -23,7 +29,7 @@ pub(crate) fn summary_answer(
     form: Form,
     tally: &Tally,
 ) -> Result<String, AllocError> {
-    let columns = summary_columns(name_width(plan, "peer"));
+    let columns = summary_columns(plan);
     let mut rows = RowWriter::new(alloc, form, &columns);
     rows.titles();
     for peer in 0..tally.peers() {
@@ -35,6 +41,9 @@ pub(crate) fn summary_answer(
             Some(downs) => format!(in alloc; "{downs}\n\n{tables}"),
             None => Ok(tables),
         };
+    }
+    for peer in 0..tally.peers() {
+        hand_filters(&mut rows, plan, tally, peer);
     }
     for client in 0..tally.peers() {
         hand_client(&mut rows, plan, tally, client);
@@ -65,13 +74,31 @@ fn tables_text(
     peers: &str,
 ) -> Result<String, AllocError> {
     let hidden = tally.count(Finding::Hidden);
+    let (unfit, filters) = if has_import_policy(plan) {
+        ("ineligible and filtered", filters_text(alloc, plan, tally)?)
+    } else {
+        ("ineligible", String::new(alloc))
+    };
     let mut matrix = String::new(alloc);
     add_matrix(&mut matrix, plan, tally)?;
     let mut steps = String::new(alloc);
     add_steps(&mut steps, tally)?;
     format!(in alloc;
-        "peers: prefixes left, of these ineligible; at the other peers refused, lost, best\n{peers}\n{matrix}\n{steps}\nhidden paths: prefixes on which one decision for all clients would leave a client none\n{hidden}\n"
+        "peers: prefixes left, of these {unfit}; at the other peers refused, lost, best\n{peers}\n{filters}{matrix}\n{steps}\nhidden paths: prefixes on which one decision for all clients would leave a client none\n{hidden}\n"
     )
+}
+
+// The table of filters, with the empty line behind it.
+fn filters_text(alloc: Global, plan: &Exchange, tally: &Tally) -> Result<String, AllocError> {
+    let columns = filter_columns(plan);
+    let mut rows = RowWriter::new(alloc, Form::Text, &columns);
+    rows.lines(String::from_str(alloc, FILTERS_TITLE));
+    rows.titles();
+    for peer in 0..tally.peers() {
+        hand_filters(&mut rows, plan, tally, peer);
+    }
+    rows.lines(String::from_str(alloc, "\n"));
+    rows.take()
 }
 
 // Adds how many routes each client gets from each sender.

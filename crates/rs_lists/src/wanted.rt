@@ -3,6 +3,7 @@
 use rs_choice::Step;
 use rs_explain::{ConditionKind, MissingReason};
 use rs_query::AskedReason;
+use rs_survey::Filter;
 
 // Which of them: of which sender, for which answer or reason, and to which prefixes.
 #[derive(Clone, Copy, Debug, PartialEq, Eq)]
@@ -27,33 +28,61 @@ impl Wanted {
 
 // Whether a reason is the one that is asked for, or one of the answer that is asked for.
 fn is_of(reason: MissingReason, asked: AskedReason) -> bool {
-    match asked {
-        AskedReason::Ineligible => matches!(reason, MissingReason::Ineligible(_)),
-        AskedReason::ServerAsInPath => reason == MissingReason::Ineligible(ConditionKind::OwnAs),
-        AskedReason::ServerAddressAsNextHop => {
-            reason == MissingReason::Ineligible(ConditionKind::ServerAsNextHop)
+    match reason {
+        MissingReason::Ineligible(condition) => {
+            asked == AskedReason::Ineligible || asked == asked_condition(condition)
         }
-        AskedReason::NextHopOffExchange => {
-            reason == MissingReason::Ineligible(ConditionKind::NextHopOffExchange)
+        MissingReason::Filtered(filter) => {
+            asked == AskedReason::Filtered || asked == asked_filter(filter)
         }
-        AskedReason::Refused => matches!(
-            reason,
-            MissingReason::RefusedByName
-                | MissingReason::RefusedByCommunity
-                | MissingReason::RefusedByLargeCommunity
+        MissingReason::RefusedByName => {
+            matches!(asked, AskedReason::Refused | AskedReason::RefusedByName)
+        }
+        MissingReason::RefusedByCommunity => matches!(
+            asked,
+            AskedReason::Refused | AskedReason::RefusedByCommunity
         ),
-        AskedReason::RefusedByName => reason == MissingReason::RefusedByName,
-        AskedReason::RefusedByCommunity => matches!(
-            reason,
-            MissingReason::RefusedByCommunity | MissingReason::RefusedByLargeCommunity
+        MissingReason::RefusedByLargeCommunity => matches!(
+            asked,
+            AskedReason::Refused
+                | AskedReason::RefusedByCommunity
+                | AskedReason::RefusedByLargeCommunity
         ),
-        AskedReason::RefusedByLargeCommunity => reason == MissingReason::RefusedByLargeCommunity,
-        AskedReason::Lost => matches!(reason, MissingReason::Lost(_)),
-        AskedReason::Preference => reason == MissingReason::Lost(Step::Preference),
-        AskedReason::PathLength => reason == MissingReason::Lost(Step::PathLength),
-        AskedReason::Origin => reason == MissingReason::Lost(Step::Origin),
-        AskedReason::Med => reason == MissingReason::Lost(Step::Med),
-        AskedReason::Identifier => reason == MissingReason::Lost(Step::Identifier),
-        AskedReason::Address => reason == MissingReason::Lost(Step::Address),
+        MissingReason::Lost(step) => asked == AskedReason::Lost || asked == asked_step(step),
+    }
+}
+
+// The reason by which the routes are asked for that fail a condition of eligibility.
+fn asked_condition(condition: ConditionKind) -> AskedReason {
+    match condition {
+        ConditionKind::OwnAs => AskedReason::ServerAsInPath,
+        ConditionKind::ServerAsNextHop => AskedReason::ServerAddressAsNextHop,
+        ConditionKind::NextHopOffExchange => AskedReason::NextHopOffExchange,
+    }
+}
+
+// The reason by which the routes are asked for that a filter does not take in.
+fn asked_filter(filter: Filter) -> AskedReason {
+    match filter {
+        Filter::PrefixLength => AskedReason::PrefixLength,
+        Filter::RefusedPrefix => AskedReason::RefusedPrefix,
+        Filter::PathLengthLimit => AskedReason::PathLengthLimit,
+        Filter::RefusedAs => AskedReason::RefusedAs,
+        Filter::FirstAs => AskedReason::FirstAs,
+        Filter::PrefixList => AskedReason::PrefixList,
+        Filter::OriginAs => AskedReason::OriginAs,
+        Filter::RpkiInvalid => AskedReason::RpkiInvalid,
+    }
+}
+
+// The reason by which the routes are asked for that a step removes.
+fn asked_step(step: Step) -> AskedReason {
+    match step {
+        Step::Preference => AskedReason::Preference,
+        Step::PathLength => AskedReason::PathLength,
+        Step::Origin => AskedReason::Origin,
+        Step::Med => AskedReason::Med,
+        Step::Identifier => AskedReason::Identifier,
+        Step::Address => AskedReason::Address,
     }
 }

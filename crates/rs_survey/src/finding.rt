@@ -7,6 +7,18 @@ use rs_choice::Step;
 use rs_explain::{ConditionKind, MissingReason};
 use rs_import::Filter;
 
+/// The filters of import policy, in the order in which they are asked.
+pub const FILTERS: [Filter; 8] = [
+    Filter::PrefixLength,
+    Filter::RefusedPrefix,
+    Filter::PathLengthLimit,
+    Filter::RefusedAs,
+    Filter::FirstAs,
+    Filter::PrefixList,
+    Filter::OriginAs,
+    Filter::RpkiInvalid,
+];
+
 /// What is counted on a prefix. Peers stand by their numbers.
 #[derive(Clone, Copy, Debug, PartialEq, Eq)]
 pub enum Finding {
@@ -16,7 +28,7 @@ pub enum Finding {
     Ineligible(usize, ConditionKind),
     /// Import policy doesn't take in the eligible route of this peer: the first condition that it fails.
     Filtered(usize, Filter),
-    /// Export policy refuses to this client, which is given first, the eligible route of this sender.
+    /// Export policy refuses to this client, which is given first, the eligible route of this sender that is taken in.
     Refused(usize, usize),
     /// This client, which is given first, gets another route than the candidate of this sender.
     Lost(usize, usize),

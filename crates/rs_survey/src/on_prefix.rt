@@ -33,7 +33,7 @@ pub struct MissingOn<'a> {
 pub struct MissingRoute<'a> {
     /// The route.
     pub route: Route<'a>,
-    /// Why the client does not get it: it is ineligible, or refused, or lost to another one.
+    /// Why the client does not get it: it is ineligible, or filtered, or refused, or lost to another one.
     pub explanation: Explanation,
 }
 
