@@ -138,11 +138,11 @@ def vrp(asn, text, most):
 
 
 def prefix_entries(octets):
-    """The patterns of a list of prefixes, as JSON or text; those of IPv6 in JSON are passed over."""
+    """The patterns of a list of prefixes, as JSON or text; those of IPv6 are passed over."""
     text = text_of(octets)
     if is_json(text):
         return each("row", member(text, None), entry)
-    return each("line", lines(text), pattern)
+    return each("line", lines(text), lambda it: None if ":" in it else pattern(it))
 
 
 def entry(row):
