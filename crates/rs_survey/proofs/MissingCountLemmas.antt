@@ -20,8 +20,11 @@ use Rattle.rs_explain.specs.declared.condition.Condition.{Condition}
 use Rattle.rs_explain.specs.declared.explanation.Explanation.{Explanation}
 use Rattle.rs_explain.specs.declared.explanation.Explanation.TheVariants.{Own, Absent, Ineligible, Filtered, Refused, Best, Lost}
 use Rattle.rs_explain.specs.declared.missing_reason.MissingReason.TheVariants as reasons
+use Rattle.rs_explain.specs.declared.filtered_by.FilteredBy.{FilteredBy}
 use Rattle.rs_explain.specs.declared.refusal.Refusal.{Refusal}
 use Rattle.rs_explain.specs.Explanations.{IsDecided, IsExplanation, reason_of}
+use Rattle.rs_explain.specs.Filtered.{failed_filter, filter_in}
+use Rattle.rs_explain.proofs.FilteredLemmas.{filter_of_failed}
 use Rattle.rs_explain.specs.MissingReasons.{reason_in, reason_of_refusal}
 use Rattle.rs_explain.specs.Reasons.{failed_condition, kind_of, refusal_of}
 use Rattle.rs_survey.specs.declared.finding.Finding.TheVariants.{Missing}
@@ -57,7 +60,7 @@ decided_reason : (tables : TablesContent) (client : ℕ) (prefix : IpPrefix) (ro
 decided_reason tables client prefix route Own missing is decided = absurd decided
 decided_reason tables client prefix route Absent missing is decided = absurd decided
 decided_reason tables client prefix route (Ineligible condition) missing is decided = absurd decided
-decided_reason tables client prefix route (Filtered filter) missing is decided = absurd decided
+decided_reason tables client prefix route (Filtered failed) missing is decided = absurd decided
 decided_reason tables client prefix route (Refused refusal) missing is decided = absurd decided
 decided_reason tables client prefix route (Best beaten) missing is decided =
     absurd (cc (sym decided.0 ∙ missing.not_best))
@@ -68,20 +71,22 @@ decided_reason tables client prefix route (Lost removal) missing is decided =
     (ap (removed_at (standing_of tables.plan) decision_steps (candidates_of tables client prefix)) (sym same) ∙ step.2))
 
 reason_by : (tables : TablesContent) (client : ℕ) (prefix : IpPrefix) (route : SentRoute) (explanation : Explanation)
-    (failed : Option Condition) (filter : Option Filter) (refusal : Option Refusal) →
-    IsMissingRoute tables client prefix route → IsExplanation tables client route.peer prefix explanation →
+    (failed : Option Condition) (failed_by : Option FilteredBy) (filter : Option Filter) (refusal : Option Refusal) →
+    option_map filter_in failed_by ≡ filter → IsMissingRoute tables client prefix route → IsExplanation tables client route.peer prefix explanation →
     MatchOption (option_or (option_map (λ condition. Ineligible condition) failed)
-    (option_or (option_map (λ filter. Filtered filter) filter) (option_map (λ refusal. Refused refusal) refusal)))
+    (option_or (option_map (λ failed. Filtered failed) failed_by) (option_map (λ refusal. Refused refusal) refusal)))
     (IsDecided tables client route.peer prefix explanation) (λ reason. explanation ≡ reason) → reason_in explanation
     ≡ option_or (option_map (λ condition. reasons.Ineligible (kind_of condition)) failed)
     (option_or (option_map (λ filter. reasons.Filtered filter) filter) (option_or (option_map reason_of_refusal refusal)
     (option_map (λ step. reasons.Lost step)
     (removed_at (standing_of tables.plan) decision_steps (candidates_of tables client prefix) route))))
-reason_by tables client prefix route explanation (Some condition) filter refusal missing is says = ap reason_in says
-reason_by tables client prefix route explanation None (Some filter) refusal missing is says = ap reason_in says
-reason_by tables client prefix route explanation None None (Some refusal) missing is says = ap reason_in says
-reason_by tables client prefix route explanation None None None missing is says =
-    decided_reason tables client prefix route explanation missing is says
+reason_by tables client prefix route explanation (Some condition) failed_by filter refusal same missing is says = ap reason_in says
+reason_by tables client prefix route explanation None (Some failed) filter refusal same missing is says =
+    rw (sym same) (ap reason_in says)
+reason_by tables client prefix route explanation None None filter (Some refusal) same missing is says =
+    rw (sym same) (ap reason_in says)
+reason_by tables client prefix route explanation None None filter None same missing is says =
+    rw (sym same) (decided_reason tables client prefix route explanation missing is says)
 
 other_client : (m n : ℕ) → (m == n) ≡ false → (n == m) ≡ false
 other_client m n differs = grind (arith, nat_tests)
@@ -96,8 +101,9 @@ reason_explained tables client prefix route explanation missing is =
     MatchOption (cond if_own (Some Own) (reason_of tables.plan client route.peer prefix left))
     (IsDecided tables client route.peer prefix explanation) (λ reason. explanation ≡ reason) in
     reason_by tables client prefix route explanation (failed_condition tables.plan route.peer route.attributes)
-    (filter_on tables.plan route.peer prefix route.attributes)
-    (refusal_of tables.plan client route.peer route.attributes) missing is
+    (failed_filter tables.plan route.peer prefix route.attributes) (filter_on tables.plan route.peer prefix route.attributes)
+    (refusal_of tables.plan client route.peer route.attributes)
+    (filter_of_failed tables.plan route.peer prefix route.attributes) missing is
     (subst (before false) missing.is_left (subst (λ (own : Bool). before own (route_from tables prefix route.peer)) other is))
 
 -- ---- the routes on a prefix
