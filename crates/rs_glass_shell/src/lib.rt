@@ -4,15 +4,17 @@
 //!
 //! Reading order: `setup` (the peer that a word names). `built` and `serving` (how tables are built). `known` (what is
 //! known of the files that were read). `reply` (an answer). `unanswered`, `lines` and `causes` (why there is none).
-//! `writing` (a file that is written whole). `names`, `reasons` and `route_text` (texts). `reason_fields` and
-//! `route_fields` (fields of rows). `toml_text` (TOML). `shell_words` (words of
-//! a command).
+//! `writing` (a file that is written whole). `names`, `import_text`, `reasons` and `route_text` (texts).
+//! `import_fields`, `reason_fields` and `route_fields` (fields of rows). `toml_text` (TOML). `shell_words` (words of a
+//! command).
 //!
 //! A call that allocates fails if memory is refused.
 #![tactic(auto)]
 
 mod built;
 mod causes;
+mod import_fields;
+mod import_text;
 mod known;
 mod lines;
 mod names;
@@ -30,6 +32,8 @@ mod writing;
 
 pub use built::Built;
 pub use causes::line_with_cause;
+pub use import_fields::hand_rpki;
+pub use import_text::{PatternText, rpki_validity, validity_key, validity_name};
 pub use known::{Down, Known, PeerSession, Whose, known_of, sessions_of};
 pub use lines::{PROGRAM, line};
 pub use names::{
@@ -38,7 +42,8 @@ pub use names::{
 };
 pub use reason_fields::{hand_peer, hand_reason};
 pub use reasons::{
-    Because, answer_name, close_text, origin_name, reason_answer, reason_key, step_key, step_name,
+    Because, answer_name, close_text, filter_key, origin_name, reason_answer, reason_key, step_key,
+    step_name,
 };
 pub use reply::{Reply, answer_with};
 pub use route_fields::{DOUBT, hand_attributes, hand_doubt, hand_route};

@@ -1,10 +1,12 @@
 //! Peers and the reasons of answers as fields of rows.
 
+use crate::import_fields::hand_filtered;
 use crate::names::{asn_at, name_at};
 use crate::reasons::{origin_name, reason_key};
 use rs_choice::{Exchange, Standing, Step};
 use rs_explain::{Condition, Explanation, MissingReason, Refusal, Removal};
 use rs_rows::{Form, RowWriter};
+use rs_update::Prefix;
 use std::net::Ipv4Addr;
 
 /// Hands over a peer: its name and its AS number.
@@ -13,12 +15,13 @@ pub fn hand_peer(row: &mut RowWriter<'_>, plan: &Exchange, peer: usize) {
     row.number("as", u64::from(asn_at(plan, peer)));
 }
 
-/// Hands over the reason for which a client does not get the route of a peer; it is empty for another answer. In
-/// JSON the details of the reason follow.
+/// Hands over the reason for which a client does not get the route of a peer on a prefix; it is empty for another answer.
+/// In JSON the details of the reason follow.
 pub fn hand_reason(
     row: &mut RowWriter<'_>,
     plan: &Exchange,
     peer: usize,
+    prefix: Prefix,
     explanation: &Explanation,
 ) {
     let key = match MissingReason::of(explanation) {
@@ -27,12 +30,18 @@ pub fn hand_reason(
     };
     row.text("reason", key);
     if row.form() == Form::Json {
-        hand_values(row, plan, peer, explanation);
+        hand_values(row, plan, peer, prefix, explanation);
     }
 }
 
 // Hands over what belongs to a reason.
-fn hand_values(row: &mut RowWriter<'_>, plan: &Exchange, peer: usize, explanation: &Explanation) {
+fn hand_values(
+    row: &mut RowWriter<'_>,
+    plan: &Exchange,
+    peer: usize,
+    prefix: Prefix,
+    explanation: &Explanation,
+) {
     match explanation {
         Explanation::Ineligible(Condition::OwnAs(asn)) => row.number("value", u64::from(*asn)),
         Explanation::Ineligible(Condition::ServerAsNextHop(address)) => {
@@ -41,6 +50,7 @@ fn hand_values(row: &mut RowWriter<'_>, plan: &Exchange, peer: usize, explanatio
         Explanation::Ineligible(Condition::NextHopOffExchange(address)) => {
             row.shown("value", &Ipv4Addr::from_bits(*address));
         }
+        Explanation::Filtered(failed) => hand_filtered(row, plan, prefix, *failed),
         Explanation::Refused(Refusal::ByName) => row.text("name", name_at(plan, peer)),
         Explanation::Refused(Refusal::ToClient(asn)) => hand_community(row, *asn),
         Explanation::Refused(Refusal::ToAll(asn)) => hand_community(row, *asn),

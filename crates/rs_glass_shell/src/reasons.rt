@@ -1,22 +1,21 @@
 //! The reasons of answers: their keys, and their texts.
 
+use crate::import_text::write_filtered;
 use crate::names::{PrefixText, name_at};
 use rs_choice::{Exchange, Standing, Step};
 use rs_explain::{Condition, ConditionKind, Explanation, MissingReason, Refusal, Removal};
 use rs_import::Filter;
 use rs_query::reason_names::{
-    ADDRESS, IDENTIFIER, INELIGIBLE, LOST, MED, NEXT_HOP_OFF_EXCHANGE, ORIGIN, PATH_LENGTH,
-    PREFERENCE, REFUSED, REFUSED_BY_COMMUNITY, REFUSED_BY_NAME, SERVER_ADDRESS_AS_NEXT_HOP,
-    SERVER_AS_IN_PATH,
+    ADDRESS, FILTERED, FIRST_AS, IDENTIFIER, INELIGIBLE, LOST, MED, NEXT_HOP_OFF_EXCHANGE, ORIGIN,
+    ORIGIN_AS, PATH_LENGTH, PATH_LENGTH_LIMIT, PREFERENCE, PREFIX_LENGTH, PREFIX_LIST, REFUSED,
+    REFUSED_AS, REFUSED_BY_COMMUNITY, REFUSED_BY_NAME, REFUSED_PREFIX, RPKI_INVALID,
+    SERVER_ADDRESS_AS_NEXT_HOP, SERVER_AS_IN_PATH,
 };
 use rs_session::Reason;
-use rs_update::Origin;
+use rs_update::{Origin, Prefix};
 use std::alloc::{AllocError, Global};
 use std::fmt;
 use std::net::Ipv4Addr;
-
-// The name of the answer that import policy doesn't take a route in.
-const FILTERED: &str = "filtered";
 
 /// The name of an answer.
 pub fn answer_name(explanation: &Explanation) -> &'static str {
@@ -60,14 +59,14 @@ pub fn reason_key(reason: MissingReason) -> &'static str {
 /// The key of a filter of import policy.
 pub fn filter_key(filter: Filter) -> &'static str {
     match filter {
-        Filter::PrefixLength => "prefix_length",
-        Filter::RefusedPrefix => "refused_prefix",
-        Filter::PathLengthLimit => "path_length_limit",
-        Filter::RefusedAs => "refused_as",
-        Filter::FirstAs => "first_as",
-        Filter::PrefixList => "prefix_list",
-        Filter::OriginAs => "origin_as",
-        Filter::RpkiInvalid => "rpki_invalid",
+        Filter::PrefixLength => PREFIX_LENGTH,
+        Filter::RefusedPrefix => REFUSED_PREFIX,
+        Filter::PathLengthLimit => PATH_LENGTH_LIMIT,
+        Filter::RefusedAs => REFUSED_AS,
+        Filter::FirstAs => FIRST_AS,
+        Filter::PrefixList => PREFIX_LIST,
+        Filter::OriginAs => ORIGIN_AS,
+        Filter::RpkiInvalid => RPKI_INVALID,
     }
 }
 
@@ -147,6 +146,8 @@ pub struct Because<'a> {
     pub client: usize,
     /// The number of the peer.
     pub peer: usize,
+    /// The prefix of the route.
+    pub prefix: Prefix,
     /// The answer, with its reason.
     pub explanation: &'a Explanation,
 }
@@ -156,7 +157,9 @@ impl fmt::Display for Because<'_> {
         let plan = self.plan;
         match self.explanation {
             Explanation::Ineligible(condition) => write_condition(f, plan, *condition),
-            Explanation::Filtered(filter) => f.write_str(filter_text(*filter)),
+            Explanation::Filtered(failed) => {
+                write_filtered(f, plan, self.peer, self.prefix, *failed)
+            }
             Explanation::Refused(Refusal::ByName) => {
                 let (client, peer) = (name_at(plan, self.client), name_at(plan, self.peer));
                 write!(f, "{client} refuses routes from {peer}")
@@ -172,20 +175,6 @@ impl fmt::Display for Because<'_> {
             Explanation::Lost(removal) => write_removal(f, plan, removal),
             _ => Ok(()),
         }
-    }
-}
-
-// What a filter of import policy finds wrong with a route.
-fn filter_text(filter: Filter) -> &'static str {
-    match filter {
-        Filter::PrefixLength => "prefix length",
-        Filter::RefusedPrefix => "prefix that is refused",
-        Filter::PathLengthLimit => "AS_PATH too long",
-        Filter::RefusedAs => "AS number that is refused",
-        Filter::FirstAs => "first AS",
-        Filter::PrefixList => "not in the prefix list",
-        Filter::OriginAs => "origin AS not in the list",
-        Filter::RpkiInvalid => "RPKI invalid",
     }
 }
 

@@ -1,20 +1,24 @@
-//! All path attributes of a route as fields of an object.
+//! All path attributes of a route as fields of an object, and its validity by RPKI.
 
-use rs_glass_shell::{hand_attributes, hex_text, lists_large_communities};
+use rs_choice::Exchange;
+use rs_glass_shell::{hand_attributes, hand_rpki, hex_text, lists_large_communities};
 use rs_rows::RowWriter;
-use rs_update::{Aggregator, Attributes, Unrecognized};
+use rs_update::{Aggregator, Attributes, Prefix, Unrecognized};
 use serde_json::Value;
 use std::alloc::{AllocError, Global};
 use std::net::Ipv4Addr;
 
-// All path attributes of a route, as an object.
+// All path attributes of a route on a prefix, and its validity by RPKI, if the exchange has VRPs: as an object.
 pub(crate) fn attributes_object(
     alloc: Global,
+    plan: &Exchange,
+    prefix: Prefix,
     attributes: &Attributes,
 ) -> Result<Value, AllocError> {
     let mut object = RowWriter::object(alloc);
     hand_attributes(&mut object, attributes);
     hand_rare(&mut object, attributes);
+    hand_rpki(&mut object, plan, prefix, attributes);
     object.into_value()
 }
 

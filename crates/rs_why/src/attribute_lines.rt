@@ -1,11 +1,13 @@
-//! All path attributes of a route as lines of a text (RFC 4271, section 4.3; RFC 1997; RFC 8092).
+//! All path attributes of a route as lines of a text (RFC 4271, section 4.3; RFC 1997; RFC 8092), and its validity by
+//! RPKI (RFC 6811).
 
+use rs_choice::Exchange;
 use rs_glass_shell::{
     community_texts, hex_text, large_community_texts, lists_large_communities, origin_name,
-    path_text,
+    path_text, rpki_validity, validity_name,
 };
 use rs_rows::{add_cell, add_words, joined};
-use rs_update::{Attributes, Unrecognized};
+use rs_update::{Attributes, Prefix, Unrecognized};
 use std::alloc::{AllocError, Global};
 use std::net::Ipv4Addr;
 
@@ -23,7 +25,21 @@ pub(crate) fn attribute_lines(
     Ok(text)
 }
 
-// Adds them.
+// The line of a route's validity by RPKI; empty if the exchange has no VRPs.
+pub(crate) fn rpki_line(
+    alloc: Global,
+    plan: &Exchange,
+    prefix: Prefix,
+    attributes: &Attributes,
+) -> Result<String, AllocError> {
+    let mut text = String::new(alloc);
+    if let Some(validity) = rpki_validity(plan, prefix, attributes) {
+        add_line(&mut text, "RPKI", validity_name(validity))?;
+    }
+    Ok(text)
+}
+
+// Adds the lines of the path attributes.
 fn add_attributes(
     text: &mut String,
     alloc: Global,

@@ -11,6 +11,7 @@ use rs_glass_shell::{
 };
 use rs_rows::{Form, RowWriter};
 use rs_session::Reason;
+use rs_update::Prefix;
 use serde_json::Value;
 use std::alloc::{AllocError, Global};
 
@@ -23,6 +24,8 @@ pub(crate) struct Answered<'a> {
     pub(crate) client: usize,
     // The number of the peer.
     pub(crate) peer: usize,
+    // The prefix.
+    pub(crate) prefix: Prefix,
     // The answer.
     pub(crate) answer: &'a Answer,
     // Since when the peer's recording runs, if it never announced a route.
@@ -52,6 +55,7 @@ fn because_text(alloc: Global, it: &Answered<'_>) -> Result<String, AllocError> 
                 plan: it.plan,
                 client: it.client,
                 peer: it.peer,
+                prefix: it.prefix,
                 explanation,
             };
             because.to_string(alloc)?
@@ -73,7 +77,7 @@ fn hand_values(row: &mut RowWriter<'_>, it: &Answered<'_>) {
             row.text("reason", if beaten.is_empty() { "alone" } else { "beat" });
             row.value("beat", names_value(row.alloc(), it.plan, beaten));
         }
-        explanation => hand_reason(row, it.plan, it.peer, explanation),
+        explanation => hand_reason(row, it.plan, it.peer, it.prefix, explanation),
     }
     if never_announced(it.answer) {
         let since = it.start.map(|start| start.time());

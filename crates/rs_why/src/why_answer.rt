@@ -1,7 +1,7 @@
 //! An answer to `why`, as a text and as JSON: what the client gets, and a row for each other peer.
 
 use crate::attribute_fields::attributes_object;
-use crate::attribute_lines::attribute_lines;
+use crate::attribute_lines::{attribute_lines, rpki_line};
 use crate::because::{Answered, fault_of, hand_because};
 use crate::clock::Clock;
 use crate::starts::Start;
@@ -134,6 +134,7 @@ fn hand_answer(
         plan: view.plan,
         client: answers.client,
         peer,
+        prefix: answers.prefix,
         answer,
         start: view.start(peer),
         again: again_behind(view, answer, peer),
@@ -142,21 +143,30 @@ fn hand_answer(
     hand_because(row, &answered);
     let route = view.route(peer, answers.prefix);
     if view.attributes && row.form() == Form::Json {
-        row.value("attributes", attributes_value(row.alloc(), &route));
+        row.value(
+            "attributes",
+            attributes_value(row.alloc(), view.plan, answers.prefix, &route),
+        );
     }
     row.end_row();
     match route {
         Some(route) if view.attributes => {
             row.lines(attribute_lines(row.alloc(), route.attributes));
+            row.lines(rpki_line(row.alloc(), view.plan, answers.prefix, route.attributes));
         }
         _ => {}
     }
 }
 
-// All attributes of a route, or null.
-fn attributes_value(alloc: Global, route: &Option<Route<'_>>) -> Result<Value, AllocError> {
+// All attributes of a route on a prefix and its validity by RPKI, or null.
+fn attributes_value(
+    alloc: Global,
+    plan: &Exchange,
+    prefix: Prefix,
+    route: &Option<Route<'_>>,
+) -> Result<Value, AllocError> {
     match route {
-        Some(route) => attributes_object(alloc, route.attributes),
+        Some(route) => attributes_object(alloc, plan, prefix, route.attributes),
         None => Ok(Value::Null),
     }
 }

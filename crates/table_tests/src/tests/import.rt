@@ -482,9 +482,10 @@ bests | ---
 why b a | Ineligible
 why a b | Filtered
 told: both | a igp 64501-65010 hop-server | b a Ineligible(ServerAsNextHop(3221225985))
-told: filtered, and refused to b | a igp 64501-65010 hop-a 0:64502 | b a Filtered(RefusedAs); c a Filtered(RefusedAs)
+told: filtered, and refused to b | a igp 64501-65010 hop-a 0:64502 | \
+    b a Filtered(RefusedAs(65010)); c a Filtered(RefusedAs(65010))
 told: it is no rival | a igp 64501-65010 hop-a; b igp 64502 hop-b; c igp 64503-65010 hop-c | \
-    c a Filtered(RefusedAs); c b Best([]); a b Best([2]); a c Lost(PathLength, 2, 2, 1, 1)
+    c a Filtered(RefusedAs(65010)); c b Best([]); a b Best([2]); a c Lost(PathLength, 2, 2, 1, 1)
 held: filtered | a igp 64501-65010 hop-a | 0 100 Filtered false false 2 64501 0
 held: both | a igp 64501-65010 hop-server | 0 100 Filtered false false 2 64501 0
 held: not asked | c igp 64503-65010 hop-c | 2 100 PlainOpenIgp true true 2 64503 0
