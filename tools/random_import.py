@@ -119,7 +119,8 @@ def halves(draw, rows):
 def prefix_list(draw, name, known):
     found = patterns(draw, known, draw.choice([0.6, 0.9, 1, 1]))
     if draw.random() < 0.5:
-        return spelled(draw, name, lines_text(draw, [pattern_text(draw, it) for it in found]))
+        ipv6 = ["2001:db8::/32{32,48}", "2001:db8::/32+"] * draw.choice([0, 0, 1])
+        return spelled(draw, name, lines_text(draw, [pattern_text(draw, it) for it in found] + ipv6))
     rows = [entry(draw, it) for it in found] + [{"prefix": "2001:db8::/32", "exact": False, "less-equal": 48}] * draw.choice([0, 0, 1])
     return spelled(draw, name, json_text(draw, halves(draw, draw.sample(rows, len(rows)))))
 

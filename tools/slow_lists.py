@@ -76,6 +76,12 @@ def as_range(value):
     return numbers
 
 
+def length_value(value):
+    """A length in JSON."""
+    need(type(value) is int, f"{value} is no length")
+    return value
+
+
 # ---- files
 
 
@@ -112,7 +118,7 @@ def vrps(octets):
     """The VRPs of a file, as CSV or JSON; those of IPv6 are passed over."""
     text = text_of(octets)
     if is_json(text):
-        return each("row", member(text, "roas"), lambda it: vrp(it["asn"], it["prefix"], it["maxLength"]))
+        return each("row", member(text, "roas"), lambda it: vrp(it["asn"], it["prefix"], length_value(it["maxLength"])))
     rows = [(place, row) for place, row in enumerate(csv.reader(text.split("\n")), 1) if any(it.strip(BLANK) for it in row)]
     if not rows:
         return []
@@ -126,17 +132,17 @@ def vrp(asn, text, most):
         return None
     address, length = prefix(text)
     number = as_number(re.sub("^(AS|as)", "", asn) if isinstance(asn, str) else asn)
-    most = as_number(most) if isinstance(most, str) else most
-    need(type(most) is int and length <= most <= 32, f"{most} is no maximum of {text}")
+    most = as_number(most)
+    need(length <= most <= 32, f"{most} is no maximum of {text}")
     return Vrp(address, length, most, number)
 
 
 def prefix_entries(octets):
-    """The patterns of a list of prefixes, as JSON or text; those of IPv6 in JSON are passed over."""
+    """The patterns of a list of prefixes, as JSON or text; those of IPv6 are passed over."""
     text = text_of(octets)
     if is_json(text):
         return each("row", member(text, None), entry)
-    return each("line", lines(text), pattern)
+    return each("line", lines(text), lambda it: None if ":" in it else pattern(it))
 
 
 def entry(row):
@@ -147,9 +153,9 @@ def entry(row):
     bounds = row.get("greater-equal"), row.get("less-equal")
     if bounds == (None, None):
         return Pattern(address, length, length, length)
-    need(row.get("exact") is not True, "exact beside bounds")
-    least, most = length if bounds[0] is None else bounds[0], 32 if bounds[1] is None else bounds[1]
-    need(type(least) is type(most) is int and length <= most <= 32, f"{most} is no maximum of {row['prefix']}")
+    need(row.get("exact", False) is False, "exact beside bounds")
+    least, most = length if bounds[0] is None else length_value(bounds[0]), 32 if bounds[1] is None else length_value(bounds[1])
+    need(length <= least <= most <= 32, f"{least} to {most} are no lengths of {row['prefix']}")
     return Pattern(address, length, least, most)
 
 

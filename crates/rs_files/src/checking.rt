@@ -7,16 +7,17 @@
 //! status.
 
 use crate::checked_peer::add_peer;
+use crate::import_lines::add_import;
 use crate::recordings::inventory_at;
 use crate::refused::refusal_text;
 use crate::unreadable::unreadable_text;
 use rs_glass_shell::{Reply, Unanswered};
-use rs_host::{DONE, FAILED, NOT_CLEAN, REFUSED, Unready, found_at, read_file};
+use rs_host::{DONE, FAILED, NOT_CLEAN, REFUSED, Unready, configuration_of, found_at, read_file};
 use rs_losses::Losses;
 use rs_mrt::Bounds;
 use rs_notes::{Close, Contents, Ending, Subject, Telling, contents_of, front_at, notes_of};
 use rs_query::CheckQuery;
-use rs_setup::{Setup, SetupFault, read_setup};
+use rs_setup::{Setup, SetupFault};
 use std::alloc::{AllocError, Global};
 use std::env::Env;
 use std::fs::Files;
@@ -25,9 +26,9 @@ use std::fs::Files;
 const CLOSE_ALONE: u64 = 1;
 
 /// Tells what a run over a configuration would meet that reads its files within bounds and by a standard. The status is
-/// 0 if the run would be clean. It is 1 if the configuration would be refused, and 2 if a file would fail. It is 5 if a
-/// session would close before the end of its file, or if there would be a note. A note on what was asked for doesn't
-/// count.
+/// 0 if the run would be clean. It is 1 if the configuration or a list would be refused, and 2 if a file would fail. It
+/// is 5 if a session would close before the end of its file, or if there would be a note. A note on what was asked for
+/// doesn't count.
 pub fn check<R: AllocGlobal + Files + Env>(
     rt: &R,
     query: &CheckQuery,
@@ -38,14 +39,15 @@ pub fn check<R: AllocGlobal + Files + Env>(
         Ok(octets) => octets,
         Err(fault) => return Err(Unanswered::from(Unready::by_file(alloc, fault, path))),
     };
-    match read_setup(alloc, &octets) {
+    match configuration_of(rt, &octets) {
         Ok(setup) => check_files(rt, &setup, query),
-        Err(SetupFault::Memory) => Err(Unanswered::Memory),
-        Err(fault) => Ok(told(
+        Err(Unready::Setup(SetupFault::Memory)) => Err(Unanswered::Memory),
+        Err(Unready::Setup(fault)) => Ok(told(
             rt.alloc(),
             refusal_text(alloc, path, &octets, &fault)?,
             REFUSED,
         )),
+        Err(unready) => Err(Unanswered::from(unready)),
     }
 }
 
@@ -112,7 +114,8 @@ fn read_contents<'a, R: AllocGlobal + Files>(
     Ok(Contents::new(path, front, held))
 }
 
-// Says what these files have of each peer of a setup, where its session closes, and the notes.
+// Says what was read of import policy, what these files have of each peer of a setup, where its session closes, and the
+// notes.
 fn check_contents<R: AllocGlobal + Files>(
     rt: &R,
     setup: &Setup,
@@ -120,6 +123,7 @@ fn check_contents<R: AllocGlobal + Files>(
     query: &CheckQuery,
 ) -> Result<Reply, Unanswered> {
     let mut text = String::new(rt.alloc());
+    add_import(&mut text, &setup.plan)?;
     let mut endings = Vec::new(rt.alloc());
     for peer in 0..setup.plan.count().min(setup.files.len()) {
         let (spec, path) = (setup.plan.peer(peer), setup.files[peer].as_str());

@@ -22,6 +22,14 @@ pub(crate) enum Found<'a> {
     /// The session closes before the end of its file, for this reason. Before the record that closes it stand so many
     /// octets, if that is known.
     Closes(&'a str, Option<u64>),
+    /// Import policy asks nothing of the peer's routes.
+    Unasked,
+    /// The peer has a prefix list with so many entries.
+    PrefixList(usize),
+    /// It has a list of AS numbers with so many entries.
+    AsList(usize),
+    /// It has both lists.
+    Lists(usize, usize),
 }
 
 impl fmt::Display for Found<'_> {
@@ -42,6 +50,15 @@ impl fmt::Display for Found<'_> {
                 write!(
                     f,
                     "the session closes by {reason}, in the record at octet {octet}"
+                )
+            }
+            Found::Unasked => f.write_str("import policy asks nothing of it"),
+            Found::PrefixList(prefixes) => write!(f, "prefix list entries {prefixes}"),
+            Found::AsList(numbers) => write!(f, "AS list entries {numbers}"),
+            Found::Lists(prefixes, numbers) => {
+                write!(
+                    f,
+                    "prefix list entries {prefixes}, AS list entries {numbers}"
                 )
             }
         }

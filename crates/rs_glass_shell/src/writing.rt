@@ -5,21 +5,21 @@
 //! itself. No file is written over one that is read.
 
 use crate::unanswered::Unanswered;
-use rs_host::{files_read, part_path, takes_part_file, writes_over};
+use rs_host::{files_of_setup, part_path, takes_part_file, writes_over};
 use rs_setup::Setup;
 use std::fs;
 use std::fs::{File, Files};
 use std::io::Write;
 
 /// Refuses a place, with `Unwritten`, if a file there would be written over the configuration at a path. It also
-/// does for a recorded file of its setup.
+/// does for a recorded file or a list of its setup.
 pub fn check_place<R: AllocGlobal + Files>(
     rt: &R,
     place: &str,
     config: &str,
     setup: &Setup,
 ) -> Result<(), Unanswered> {
-    let read = files_read(rt, config, &setup.files)?;
+    let read = files_of_setup(rt, config, setup)?;
     if writes_over(rt, place, &read)? {
         return Err(Unanswered::Unwritten(String::from_str(rt.alloc(), place)?));
     }

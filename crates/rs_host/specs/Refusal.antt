@@ -5,6 +5,8 @@ use Rattle.rs_choice.specs.FaultNumber.{number_of_fault, peer_of_fault}
 use Rattle.rs_choice.specs.declared.fault.PlanFault.{PlanFault}
 use Rattle.rs_choice.specs.declared.fault.PlanFault.TheVariants as plan
 use Rattle.rs_host.specs.Line.{Text, named, one_line, out_of_memory}
+use Rattle.rs_import_files.specs.declared.fault.ListFault.{ListFault}
+use Rattle.rs_import_files.specs.declared.fault.ListFault.TheVariants as list
 use Rattle.rs_options.specs.declared.options.WordsFault.{WordsFault}
 use Rattle.rs_options.specs.declared.options.WordsFault.TheVariants as words
 use Rattle.rs_setup.specs.declared.setup.SetupFault.{SetupFault}
@@ -24,6 +26,20 @@ plan_text fault = codes "plan fault P" ++ numbers (number_of_fault fault) (peer_
 abbrev pub key_text : Text → Text → Text
 key_text key what = codes "configuration: " ++ (one_line key ++ (codes " is " ++ what))
 
+-- where a list of import policy is wrong, and why
+abbrev pub fault_text : ListFault → Text
+fault_text (list.Line number reason) =
+    codes "line " ++ (decimal number ++ (codes ": " ++ string_bytes reason))
+fault_text (list.Row number reason) =
+    codes "row " ++ (decimal number ++ (codes ": " ++ string_bytes reason))
+fault_text (list.Whole reason) = string_bytes reason
+fault_text list.TooMany = codes "there are more than 4294967295 entries"
+fault_text list.Memory = out_of_memory
+
+-- the text about the list at a path
+abbrev pub list_text : Text → ListFault → Text
+list_text path fault = one_line (path ++ (codes ": " ++ fault_text fault))
+
 -- why a configuration is refused
 abbrev pub setup_text : SetupFault → Text
 setup_text setup.NotToml = codes "configuration is not TOML"
@@ -31,6 +47,7 @@ setup_text (setup.Unknown key) = key_text (string_bytes key) (codes "unknown")
 setup_text (setup.Missing key) = key_text (string_bytes key) (codes "missing")
 setup_text (setup.NotValid key) = key_text (string_bytes key) (codes "not valid")
 setup_text (setup.Plan fault) = plan_text fault
+setup_text (setup.List path fault) = list_text (string_bytes path) fault
 setup_text setup.Memory = out_of_memory
 
 -- the line of a program about a refused configuration

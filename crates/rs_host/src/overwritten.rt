@@ -2,6 +2,7 @@
 
 use crate::file_identity::{FileIdentity, found_at};
 use crate::part_file::part_path;
+use rs_setup::Setup;
 use std::alloc::AllocError;
 use std::fs::Files;
 
@@ -16,12 +17,34 @@ pub fn files_read<R: AllocGlobal + Files>(
     if let Some(file) = file_at(rt, config)? {
         read.push(file)?;
     }
+    add_files(rt, &mut read, paths)?;
+    Ok(read)
+}
+
+/// The files that a program reads of a setup: its configuration at this path, the recorded files, the VRP file and the
+/// lists.
+pub fn files_of_setup<R: AllocGlobal + Files>(
+    rt: &R,
+    config: &str,
+    setup: &Setup,
+) -> Result<Vec<FileIdentity>, AllocError> {
+    let mut read = files_read(rt, config, &setup.files)?;
+    add_files(rt, &mut read, &setup.lists)?;
+    Ok(read)
+}
+
+// Adds the files at some paths.
+fn add_files<R: Files>(
+    rt: &R,
+    read: &mut Vec<FileIdentity>,
+    paths: &[String],
+) -> Result<(), AllocError> {
     for path in paths {
         if let Some(file) = file_at(rt, path)? {
             read.push(file)?;
         }
     }
-    Ok(read)
+    Ok(())
 }
 
 /// Whether a file with this place would be written over one of these files. Then one of them stands at the place or

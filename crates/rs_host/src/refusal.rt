@@ -1,11 +1,12 @@
 //! The lines that say why a command line or a configuration is refused.
 
 ghost use Rattle.std.specs.Prelude.{◌≡◌, IfOk, string_bytes};
-ghost use Rattle.rs_host.specs.Refusal.{key_text, plan_text, setup_line, setup_text, words_text};
+ghost use Rattle.rs_host.specs.Refusal.{fault_text, key_text, list_text, plan_text, setup_line, setup_text, words_text};
 
 use crate::escaped::on_one_line;
 use crate::line::{MEMORY_TEXT, program_line};
 use rs_choice::PlanFault;
+use rs_import_files::ListFault;
 use rs_options::WordsFault;
 use rs_setup::SetupFault;
 use std::alloc::{AllocError, Global};
@@ -41,6 +42,7 @@ fn setup_text(alloc: Global, fault: &SetupFault) -> Result<String, AllocError>
         SetupFault::Missing(key) => key_text(alloc, key, "missing"),
         SetupFault::NotValid(key) => key_text(alloc, key, "not valid"),
         SetupFault::Plan(fault) => plan_text(alloc, *fault),
+        SetupFault::List(path, fault) => list_text(alloc, path, fault),
         SetupFault::Memory => String::from_str(alloc, MEMORY_TEXT),
     }
 }
@@ -64,5 +66,27 @@ fn plan_text(alloc: Global, fault: PlanFault) -> Result<String, AllocError>
     match fault.peer() {
         None => format!(in alloc; "plan fault P{number}"),
         Some(peer) => format!(in alloc; "plan fault P{number} at peer {peer}"),
+    }
+}
+
+// What is wrong with the list at a path.
+fn list_text(alloc: Global, path: &str, fault: &ListFault) -> Result<String, AllocError>
+    ensures { IfOk result (λ text. string_bytes text ≡ list_text path.now fault.now) }
+{
+    let fault = fault_text(alloc, fault)?;
+    let text = format!(in alloc; "{path}: {fault}")?;
+    on_one_line(alloc, &text)
+}
+
+// Where a list is wrong, and why.
+fn fault_text(alloc: Global, fault: &ListFault) -> Result<String, AllocError>
+    ensures { IfOk result (λ text. string_bytes text ≡ fault_text fault.now) }
+{
+    match fault {
+        ListFault::Line(number, reason) => format!(in alloc; "line {number}: {reason}"),
+        ListFault::Row(number, reason) => format!(in alloc; "row {number}: {reason}"),
+        ListFault::Whole(reason) => String::from_str(alloc, reason),
+        ListFault::TooMany => String::from_str(alloc, "there are more than 4294967295 entries"),
+        ListFault::Memory => String::from_str(alloc, MEMORY_TEXT),
     }
 }

@@ -5,15 +5,15 @@ ghost use Rattle.rs_host.specs.Unready.{EndsAt, NamesFile};
 ghost use Rattle.rs_host.specs.declared.unready.Unready.TheVariants.{Memory};
 
 use crate::fault::FileFault;
-use rs_setup::SetupFault;
+use rs_setup::{NoSetup, SetupFault};
 use std::alloc::{AllocError, Global};
 
 /// Why a program can't read what it needs before its work.
 #[derive(Debug, Drop)]
 pub enum Unready {
-    /// The configuration is refused.
+    /// The configuration or one of its lists is refused.
     Setup(SetupFault),
-    /// The configuration or a peer's recorded file can't be read: its path.
+    /// The configuration, one of its lists or a peer's recorded file can't be read: its path.
     Unread(String),
     /// Memory was refused.
     Memory,
@@ -46,5 +46,14 @@ impl From<AllocError> for Unready {
 
     fn from(_refused: AllocError) -> Unready {
         Unready::Memory
+    }
+}
+
+impl From<NoSetup> for Unready {
+    fn from(refused: NoSetup) -> Unready {
+        match refused {
+            NoSetup::Refused(fault) => Unready::Setup(fault),
+            NoSetup::Unread(path) => Unready::Unread(path),
+        }
     }
 }

@@ -1,13 +1,12 @@
 -- Laws of import policy and of validity by RPKI.
 use Rattle.std.specs.Prelude.{◌≡◌, ◌≤◌, ◌↔◌, ℕ, true, IsFalse, List, Option, None, Some, slice_get}
-use Rattle.std.specs.List.{Contains}
 use Rattle.rs_types.specs.IpPrefix.{IpPrefix}
 use Rattle.rs_types.specs.PathAttributes.{PathAttributes}
 use Rattle.rs_import.specs.declared.as_range.AsRange.{AsRange}
 use Rattle.rs_import.specs.declared.pattern.Pattern.{Pattern}
 use Rattle.rs_import.specs.declared.vrp.Validity.{Validity}
 use Rattle.rs_import.specs.declared.vrp.Vrp.{Vrp}
-use Rattle.rs_import.specs.AsRanges.{is_in_ranges}
+use Rattle.rs_import.specs.Alike.{AreAlike, HaveSameMembers, HaveSameNumbers}
 use Rattle.rs_import.specs.Import.{ImportPolicy, PeerImport, filter_by_peer, filter_of, no_import, no_rules}
 use Rattle.rs_import.specs.Patterns.{matches_some}
 use Rattle.rs_import.specs.Rpki.{HasValidity, validity_of}
@@ -17,10 +16,6 @@ abbrev pub ValidityIsComputed : Type 0
 ValidityIsComputed =
     (vrps : List Vrp) (prefix : IpPrefix) (origin : Option ℕ) (validity : Validity)
     → HasValidity vrps prefix origin validity ↔ (validity ≡ validity_of vrps prefix origin)
-
--- two lists have the same members
-abbrev pub HaveSameMembers : {M : Type 0} → List M → List M → Type 0
-HaveSameMembers {M} some others = (member : M) → Contains some member ↔ Contains others member
 
 -- the validity of a route depends neither on the order of the VRPs nor on repeated ones
 abbrev pub VrpsInAnyOrder : Type 0
@@ -36,8 +31,15 @@ PatternsInAnyOrder =
 
 abbrev pub RangesInAnyOrder : Type 0
 RangesInAnyOrder =
-    (some others : List AsRange) → HaveSameMembers some others → (asn : ℕ)
-    → is_in_ranges some asn ≡ is_in_ranges others asn
+    (some others : List AsRange) → HaveSameMembers some others → HaveSameNumbers some others
+
+-- policies that say the same filter the same routes, each for the same reason
+abbrev pub AlikeFilterAlike : Type 0
+AlikeFilterAlike =
+    (policy other : ImportPolicy) → AreAlike policy other
+    → (own_as number sender_as : ℕ) (prefix : IpPrefix) (attributes : PathAttributes)
+    → filter_of policy own_as number sender_as prefix attributes
+    ≡ filter_of other own_as number sender_as prefix attributes
 
 -- import policy that asks nothing takes every route in
 abbrev pub NoImportTakesAll : Type 0

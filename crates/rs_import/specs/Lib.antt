@@ -3,9 +3,11 @@ pub mod AsRanges  -- AS numbers by ranges
 pub mod Patterns  -- patterns of prefixes
 pub mod Rpki  -- origin AS, and validity by RPKI (RFC 6811)
 pub mod Import  -- which routes are taken in
+pub mod Alike  -- policies that say the same
 pub mod Laws  -- laws of them
 -- How values are kept:
 pub mod ImportView  -- import policy by its fields
+pub mod Reaches  -- ranges in order, each with how far those up to it reach
 pub mod Nesting  -- patterns in order, each with the nearest one that covers it
 pub mod CoveringView  -- an iterator by the VRPs to come
 pub mod VrpsView  -- VRPs by the patterns of their prefixes and by their ASes

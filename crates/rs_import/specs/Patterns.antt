@@ -1,6 +1,6 @@
 -- Patterns of prefixes (our choice: those of BIRD's prefix sets).
-use Rattle.std.specs.Prelude.{nat_le, Bool, ◌&&◌, List}
-use Rattle.std.specs.List.{list_any}
+use Rattle.std.specs.Prelude.{nat_le, ◌≤◌, Bool, ◌&&◌, IsTrue, List}
+use Rattle.std.specs.List.{All, list_any}
 use Rattle.rs_types.specs.IpPrefix.{IpPrefix}
 use Rattle.rs_types.specs.Covering.{covers}
 use Rattle.rs_import.specs.declared.pattern.Pattern.{Pattern}
@@ -13,3 +13,8 @@ is_match prefix pattern =
 -- whether some pattern matches the prefix
 abbrev pub matches_some : List Pattern → IpPrefix → Bool
 matches_some patterns prefix = list_any (is_match prefix) patterns
+
+-- no pattern that matches the prefix has a longer prefix than this one
+abbrev pub IsMostSpecific : List Pattern → IpPrefix → Pattern → Type 0
+IsMostSpecific patterns prefix found =
+    All (λ pattern. IsTrue (is_match prefix pattern) → pattern.prefix.len ≤ found.prefix.len) patterns

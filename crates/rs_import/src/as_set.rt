@@ -1,25 +1,30 @@
 //! Sets of AS numbers.
 
 ghost use Rattle.std.specs.Prelude.{◌≡◌, ℕ, [], IfOk, length};
-ghost use Rattle.rs_import.specs.AsRanges.{is_in_range, is_in_ranges};
+ghost use Rattle.rs_import.specs.AsRanges.{is_in_ranges};
+ghost use Rattle.rs_import.specs.Reaches.{AreReaches};
 
 use crate::as_range::AsRange;
 use std::alloc::{AllocError, Global};
 use std::marker::Model;
 
-/// A set of AS numbers, which is looked through fast.
+/// A set of AS numbers, in which one is found fast. It takes 12 octets for each range.
 #[derive(Debug, Drop)]
 pub struct AsSet {
     ranges: Vec<AsRange>,
+    reaches: Vec<u32>,
 }
 
 impl Model for AsSet {
     ghost use Rattle.std.specs.Prelude.{List};
     ghost use Rattle.rs_import.specs.declared.as_range.AsRange.{AsRange};
+    ghost use Rattle.rs_import.specs.Reaches.{AreInOrder, AreReaches};
 
     ghost Value = { List AsRange };
 
     ghost view = { λ set. set.ranges.items };
+
+    ghost invariant = { λ set. AreInOrder set.ranges.items × AreReaches set.ranges.items set.reaches.items };
 }
 
 impl AsSet {
@@ -29,6 +34,7 @@ impl AsSet {
     {
         AsSet {
             ranges: Vec::new(alloc),
+            reaches: Vec::new(alloc),
         }
     }
 
@@ -37,14 +43,22 @@ impl AsSet {
         ensures same { IfOk result (λ set. (asn : ℕ) → is_in_ranges set asn ≡ is_in_ranges ranges.items asn) }
         ensures count { IfOk result (λ set. length set ≡ length ranges.items) }
     {
-        Ok(AsSet { ranges })
+        let alloc = *ranges.allocator();
+        let mut sorted = ranges;
+        sorted.sort_by_key(|range| range.first)?;
+        let reaches = reaches_of(alloc, &sorted)?;
+        Ok(AsSet {
+            ranges: sorted,
+            reaches,
+        })
     }
 
     /// Whether a number is in the set. It takes no memory.
     pub fn holds(&self, asn: u32) -> bool
         ensures { result ≡ is_in_ranges self.now asn }
     {
-        self.ranges.iter().any(|range| in_range(range, asn))
+        let count = self.ranges.partition_point(|range| range.first <= asn);
+        count > 0 && asn <= self.reaches[count - 1]
     }
 
     /// How many ranges it was made of.
@@ -55,9 +69,15 @@ impl AsSet {
     }
 }
 
-// Whether a number is in a range.
-fn in_range(range: &AsRange, asn: u32) -> bool
-    ensures { result ≡ is_in_range asn range.now }
+// For each range, the greatest number that it or one before it has.
+fn reaches_of(alloc: Global, ranges: &[AsRange]) -> Result<Vec<u32>, AllocError>
+    ensures { IfOk result (λ reaches. AreReaches ranges.now reaches.items) }
 {
-    range.first <= asn && asn <= range.last
+    let mut reaches = Vec::with_capacity(alloc, ranges.len())?;
+    let mut reach = 0;
+    for range in ranges {
+        reach = reach.max(range.last);
+        reaches.push(reach)?;
+    }
+    Ok(reaches)
 }

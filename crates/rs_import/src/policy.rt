@@ -3,7 +3,7 @@
 //! The conditions and their order are our choice. The first one that a route fails is the reason why the route is not
 //! taken in.
 
-ghost use Rattle.std.specs.Prelude.{◌≡◌, slice_get};
+ghost use Rattle.std.specs.Prelude.{◌≡◌, ◌==◌, length, not, slice_get};
 ghost use Rattle.std.specs.Option.{option_copied, option_map};
 ghost use Rattle.rs_import.specs.Import.{begins_with, filter_by_peer, filter_of, import_tests, is_above, is_len_taken};
 ghost use Rattle.rs_import.specs.Import.{is_origin_listed, is_prefix_listed, is_rpki_invalid, no_import, no_rules};
@@ -155,6 +155,13 @@ impl ImportPolicy {
         ensures { result ≡ record { rules = rules; peers = peers.items } }
     {
         ImportPolicy { rules, peers }
+    }
+
+    /// Whether import policy was configured at all: then each peer has an entry. It takes no memory.
+    pub fn is_configured(&self) -> bool
+        ensures { result ≡ not (length self.now.peers == 0) }
+    {
+        !self.peers.is_empty()
     }
 
     /// The rules for all peers.

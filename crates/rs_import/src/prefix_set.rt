@@ -1,9 +1,9 @@
 //! Sets of prefixes by patterns.
 
-ghost use Rattle.std.specs.Prelude.{◌≡◌, ◌≤◌, ◌^◌, ◌-◌, [], IfOk, find, length, reverse};
+ghost use Rattle.std.specs.Prelude.{◌≡◌, ◌≤◌, ◌^◌, ◌-◌, [], IfOk, IfSome, find, length, reverse};
 ghost use Rattle.std.specs.List.Sorted.{IsNonDecreasingBy, IsPermutation};
 ghost use Rattle.rs_import.specs.Nesting.{rank_of};
-ghost use Rattle.rs_import.specs.Patterns.{is_match, matches_some};
+ghost use Rattle.rs_import.specs.Patterns.{IsMostSpecific, is_match, matches_some};
 
 use crate::nesting::{Nesting, rank_of};
 use crate::pattern::Pattern;
@@ -19,11 +19,15 @@ pub struct PrefixSet {
 
 impl Model for PrefixSet {
     ghost use Rattle.std.specs.Prelude.{List};
+    ghost use Rattle.std.specs.List.Sorted.{IsNonDecreasingBy};
     ghost use Rattle.rs_import.specs.declared.pattern.Pattern.{Pattern};
+    ghost use Rattle.rs_import.specs.Nesting.{rank_of};
 
     ghost Value = { List Pattern };
 
     ghost view = { λ set. set.nesting };
+
+    ghost invariant = { λ set. IsNonDecreasingBy (λ pattern. rank_of pattern.prefix) set.nesting };
 }
 
 impl PrefixSet {
@@ -36,10 +40,12 @@ impl PrefixSet {
         }
     }
 
-    /// The set of some patterns, which may stand in any order and more than once.
+    /// The set of some patterns, which may stand in any order and more than once. It has them in the order of their
+    /// prefixes.
     pub fn new(patterns: Vec<Pattern>) -> Result<PrefixSet, AllocError>
         requires { length patterns.items ≤ 2 ^ 32 - 1 }
-        ensures { IfOk result (λ set. IsPermutation patterns.items set) }
+        ensures members { IfOk result (λ set. IsPermutation patterns.items set) }
+        ensures order { IfOk result (λ set. IsNonDecreasingBy (λ pattern. rank_of pattern.prefix) set) }
     {
         let alloc = *patterns.allocator();
         let mut sorted = patterns;
@@ -58,7 +64,8 @@ impl PrefixSet {
     /// The pattern that matches a prefix: of several the most specific one, which is the last in the set's order. It
     /// takes no memory.
     pub fn matching(&self, prefix: Prefix) -> Option<Pattern>
-        ensures { result ≡ find (is_match prefix) (reverse self.now) }
+        ensures found { result ≡ find (is_match prefix) (reverse self.now) }
+        ensures specific { IfSome result (λ found. IsMostSpecific self.now prefix found) }
     {
         let mut count = self.nesting.first(prefix);
         while count > 0 {

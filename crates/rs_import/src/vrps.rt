@@ -34,10 +34,12 @@ impl Model for Vrps {
 }
 
 impl Vrps {
-    /// The table of some VRPs, which may stand in any order and more than once.
+    /// The table of some VRPs, which may stand in any order and more than once. It has them in the order of their
+    /// prefixes.
     pub fn new(vrps: Vec<Vrp>) -> Result<Vrps, AllocError>
         requires { length vrps.items ≤ 2 ^ 32 - 1 }
-        ensures { IfOk result (λ table. IsPermutation vrps.items table) }
+        ensures members { IfOk result (λ table. IsPermutation vrps.items table) }
+        ensures order { IfOk result (λ table. IsNonDecreasingBy (λ vrp. rank_of vrp.prefix) table) }
     {
         let alloc = *vrps.allocator();
         let mut sorted = vrps;

@@ -1,5 +1,9 @@
 pub mod CsvLemmas
+pub mod ErrLemmas
+pub mod FormLemmas
 pub mod LineLemmas
 pub mod MarkLemmas
+pub mod NoneLemmas
+pub mod RecordLemmas
 pub mod RowLemmas
 pub mod TextLemmas

@@ -11,7 +11,7 @@ use Rattle.std.specs.Str.Parse.{ParsesUnsigned, digits_value}
 use Rattle.std.specs.Str.Pattern.{StripsPrefix, FindsTextPrefix}
 use Rattle.rs_types.specs.IpPrefix.{IpPrefix}
 use Rattle.rs_import.specs.declared.pattern.Pattern.{Pattern}
-use Rattle.rs_import_files.specs.Texts.{AreBounds, AreWritten, IsAsNumber, IsAsTitle, IsNumber, IsPattern, IsPrefixText}
+use Rattle.rs_import_files.specs.Texts.{AreBounds, AreWritten, IsNumber, IsPattern, IsPrefixText}
 
 own : IsNumeralModel (λ ds. all_ascii_digits ds ≡ true) (digits_value 10)
 own = numerals_by_value _ (search rules)
@@ -29,11 +29,6 @@ number_read {E} text (Err e) plain bare reads = tt
 -- what stands behind a title of an AS number is what is left of the text
 pub behind_title : (text title rest : List ℕ) → StripsPrefix (FindsTextPrefix title) text rest → text ≡ title ++ rest
 behind_title text title rest (n, (len, starts, bound), is, more) = starts ∙ ap (λ (back : List ℕ). title ++ back) (sym is)
-
-pub titled : (text title digits : List ℕ) (read : Option ℕ) → IsAsTitle title → text ≡ title ++ digits → IfSome read (IsNumber digits)
-    → IfSome read (IsAsNumber text)
-titled text title digits None is split none = tt
-titled text title digits (Some asn) is split number = (title, digits, split, is, number)
 
 -- a prefix alone is a pattern
 pub pattern_alone : (text : List ℕ) (prefix : IpPrefix) (pattern : Pattern) → IsPrefixText text prefix

@@ -1,5 +1,6 @@
--- VRPs and lists as JSON, in the forms of rpki-client, Routinator and bgpq4 (RFC 8259; RFC 6811, section 2, for a VRP).
-use Rattle.std.specs.Prelude.{◌≡◌, ◌≤◌, ◌⊎◌, ⊤, ℕ, Bool, true, false, not, List, [], ◌++◌, codes, Option, None, Some, IsSomeAnd}
+-- VRPs and lists as JSON, in the forms of rpki-client, Routinator and bgpq4 (RFC 8259; RFC 6811, section 2: VRPs).
+use Rattle.std.specs.Prelude.{◌≡◌, ◌≤◌, ◌⊎◌, ⊤, ℕ, Bool, true, false, not, List, [], ◌++◌, codes}
+use Rattle.std.specs.Prelude.{Option, None, Some, IsSomeAnd}
 use Rattle.std.specs.Prelude.{MatchOption, if◌then◌else◌, option_and_then}
 use Rattle.std.specs.List.{AllZip, filter}
 use Rattle.std.specs.Option.{is_some, option_map, unwrap_or}
@@ -9,8 +10,7 @@ use Rattle.json.specs.Value.{items_of}
 use Rattle.rs_import.specs.declared.as_range.AsRange.{AsRange}
 use Rattle.rs_import.specs.declared.pattern.Pattern.{Pattern}
 use Rattle.rs_import.specs.declared.vrp.Vrp.{Vrp}
-use Rattle.rs_import_files.specs.Csv.{has_colon}
-use Rattle.rs_import_files.specs.Texts.{AreBounds, IsAsNumber, IsLength, IsNumber, IsPrefixText}
+use Rattle.rs_import_files.specs.Texts.{AreBounds, IsAsNumber, IsLength, IsNumber, IsPrefixText, has_colon}
 
 -- a value is an AS number: a number, or a text with or without "AS" before it
 abbrev pub IsAsValue : Json → ℕ → Type 0
@@ -42,12 +42,18 @@ IsVrpRow row vrp =
     × IsSomeAnd (get (codes "maxLength") row) (λ value. IsLengthValue value vrp.max_len)
     × (vrp.prefix.len ≤ vrp.max_len)
 
--- What a JSON text of VRPs says: its "roas" are rows, of which those that count are the VRPs, one by one.
+-- VRPs are the rows that count, one by one
+abbrev pub AreVrpRows : List Json → List Vrp → Type 0
+AreVrpRows rows vrps = AllZip IsVrpRow (filter counts rows) vrps
+
+-- a value is a list of rows, which stand for these entries
+abbrev pub IsListOf : {E : Type 0} → (List Json → List E → Type 0) → Json → List E → Type 0
+IsListOf AreRows value entries = (rows : List Json) × (value ≡ array (items_of rows)) × AreRows rows entries
+
+-- What a JSON text of VRPs says: its "roas" are a list of rows, of which those that count are the VRPs.
 abbrev pub IsJsonOfVrps : List ℕ → List Vrp → Type 0
 IsJsonOfVrps text vrps =
-    (file : Json) × (rows : List Json) × (document text ≡ Some file)
-    × (get (codes "roas") file ≡ Some (array (items_of rows)))
-    × AllZip IsVrpRow (filter counts rows) vrps
+    IsSomeAnd (document text) (λ file. IsSomeAnd (get (codes "roas") file) (λ roas. IsListOf AreVrpRows roas vrps))
 
 -- a bound at a key that may be there, or the default
 abbrev pub IsBound : Option Json → ℕ → ℕ → Type 0
@@ -65,8 +71,8 @@ IsExactLawful row =
     × (has_bound (codes "greater-equal") row ≡ false)
     × (has_bound (codes "less-equal") row ≡ false)))
 
--- A row is a pattern. The least length is "greater-equal", or else the prefix's own. The most is "less-equal", or else 32
--- where there is a least, or else the prefix's own.
+-- A row is a pattern. The least length is "greater-equal", or else the prefix's own. The most is "less-equal", or else
+-- 32 where there is a least, or else the prefix's own.
 abbrev pub IsPatternRow : Json → Pattern → Type 0
 IsPatternRow row pattern =
     IsSomeAnd (text_at (codes "prefix") row) (λ text. IsPrefixText text pattern.prefix)
@@ -75,6 +81,10 @@ IsPatternRow row pattern =
     (if has_bound (codes "greater-equal") row then 32 else pattern.prefix.len) pattern.most
     × AreBounds pattern.prefix.len pattern.least pattern.most
     × IsExactLawful row
+
+-- patterns are the rows that count, one by one
+abbrev pub ArePatternRows : List Json → List Pattern → Type 0
+ArePatternRows rows patterns = AllZip IsPatternRow (filter counts rows) patterns
 
 -- a row is a range of one AS number
 abbrev pub IsRangeRow : Json → AsRange → Type 0
@@ -86,15 +96,23 @@ ListsHave no_members rows = rows ≡ []
 ListsHave (member key value later) rows =
     (front back : List Json) × (rows ≡ front ++ back) × (value ≡ array (items_of front)) × ListsHave later back
 
--- a JSON text is an object of lists with these rows
-abbrev pub HasRows : List ℕ → List Json → Type 0
-HasRows text rows = (members : Members) × (document text ≡ Some (object members)) × ListsHave members rows
+-- ranges are all rows, one by one
+abbrev pub AreRangeRows : List Json → List AsRange → Type 0
+AreRangeRows rows ranges = AllZip IsRangeRow rows ranges
 
--- What a JSON text of patterns says: the rows that count, one by one.
+-- members of an object are lists, whose rows stand for these entries
+abbrev pub AreListsOf : {E : Type 0} → (List Json → List E → Type 0) → Members → List E → Type 0
+AreListsOf AreRows members entries = (rows : List Json) × ListsHave members rows × AreRows rows entries
+
+-- a JSON text is an object of lists, whose rows stand for these entries
+abbrev pub IsJsonOf : {E : Type 0} → (List Json → List E → Type 0) → List ℕ → List E → Type 0
+IsJsonOf AreRows text entries =
+    (members : Members) × (document text ≡ Some (object members)) × AreListsOf AreRows members entries
+
+-- What a JSON text of patterns says: the rows that count.
 abbrev pub IsJsonOfPatterns : List ℕ → List Pattern → Type 0
-IsJsonOfPatterns text patterns =
-    (rows : List Json) × HasRows text rows × AllZip IsPatternRow (filter counts rows) patterns
+IsJsonOfPatterns text patterns = IsJsonOf ArePatternRows text patterns
 
--- What a JSON text of AS numbers says: all rows, one by one.
+-- What a JSON text of AS numbers says: all rows.
 abbrev pub IsJsonOfRanges : List ℕ → List AsRange → Type 0
-IsJsonOfRanges text ranges = (rows : List Json) × HasRows text rows × AllZip IsRangeRow rows ranges
+IsJsonOfRanges text ranges = IsJsonOf AreRangeRows text ranges

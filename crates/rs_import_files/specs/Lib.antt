@@ -2,6 +2,7 @@
 pub mod Texts  -- AS numbers, prefixes and patterns as texts
 pub mod Lines  -- lists as lines of a text
 pub mod Files  -- what the octets of a file say
+pub mod Faults  -- when a file is refused for what it says
 pub mod Csv  -- VRPs as records of CSV
 pub mod JsonRows  -- VRPs and lists as JSON
 -- How CSV is read:

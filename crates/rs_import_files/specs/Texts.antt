@@ -1,10 +1,20 @@
 -- AS numbers, prefixes and patterns as texts (RFC 5396 for "asplain"; RFC 4632 for a prefix; BIRD 2 for patterns).
-use Rattle.std.specs.Prelude.{◌≡◌, ℕ, ◌<◌, ◌≤◌, ◌^◌, ◌⊎◌, List, [], ◌++◌, codes, decimal}
+use Rattle.std.specs.Prelude.{◌≡◌, ◌≢◌, ℕ, ◌<◌, ◌≤◌, ◌^◌, ◌⊎◌, ◌==◌, Bool, ◌&&◌, ◌||◌, List, [], ◌++◌, codes, decimal}
 use Rattle.std.specs.Int.{w32, from_be_bytes}
+use Rattle.std.specs.Char.{is_ascii_hexdigit}
+use Rattle.std.specs.List.{All, list_all, list_any}
 use Rattle.std.specs.Net.Grammar.{IsDotted}
 use Rattle.rs_types.specs.IpPrefix.{IpPrefix, IsPrefix}
 use Rattle.rs_import.specs.declared.as_range.AsRange.{AsRange}
 use Rattle.rs_import.specs.declared.pattern.Pattern.{Pattern}
+
+-- a text or a value has no meaning of this sort
+abbrev pub StandsForNone : {V A : Type 0} → (V → A → Type 0) → V → Type 0
+StandsForNone {V} {A} StandsFor value = (found : A) → ¬ (StandsFor value found)
+
+-- a text has no octet like this one
+abbrev pub Lacks : ℕ → List ℕ → Type 0
+Lacks mark text = All (λ octet. octet ≢ mark) text
 
 -- a text is a decimal number of 32 bits, without needless zeros
 abbrev pub IsNumber : List ℕ → ℕ → Type 0
@@ -37,6 +47,20 @@ IsAsRange text range = (IsNumber text range.first × (range.last ≡ range.first
 -- the same, where "AS" may stand before a single number
 abbrev pub IsAsEntry : List ℕ → AsRange → Type 0
 IsAsEntry text range = (IsAsNumber text range.first × (range.last ≡ range.first)) ⊎ IsSpan text range
+
+-- a text has a colon, as each prefix of IPv6 has
+abbrev pub has_colon : List ℕ → Bool
+has_colon text = list_any (λ octet. octet == 58) text
+
+-- an octet may stand in a pattern of IPv6: a hexadecimal digit, or one of ":./+{,}"
+abbrev pub is_ipv6_octet : ℕ → Bool
+is_ipv6_octet octet =
+    is_ascii_hexdigit octet || (octet == 58) || (octet == 46) || (octet == 47) || (octet == 43) || (octet == 123)
+    || (octet == 44) || (octet == 125)
+
+-- a text is a pattern of IPv6, as far as its octets tell: it has a colon, and no octet that may not stand there
+abbrev pub is_ipv6 : List ℕ → Bool
+is_ipv6 text = has_colon text && list_all is_ipv6_octet text
 
 -- a text is an address: four decimal numbers with dots between them and without needless zeros
 abbrev pub IsDottedAddress : List ℕ → ℕ → Type 0

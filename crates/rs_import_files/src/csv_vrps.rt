@@ -1,56 +1,68 @@
 //! VRPs as records of CSV: titles, and then an AS number, a prefix and a maximum length in each record.
 
-ghost use Rattle.std.specs.Prelude.{◌≡◌, ℕ, List, [], ◌∷◌, IfOk, MatchOption, Some, true, false};
+ghost use Rattle.std.specs.Prelude.{◌≡◌, ℕ, List, [], ◌∷◌, IfErr, IfOk, MatchOption, None, Some, true, false};
 ghost use Rattle.csv.specs.Reading.{strip_bom};
 ghost use Rattle.csv.specs.Records.{field_at, fields_of};
-ghost use Rattle.rs_import_files.specs.Csv.{AreRecordsOf, AreTitles, AreVrps, IsCsvOfVrps, IsVrpRecord, has_colon, is_counted};
-ghost use Rattle.rs_import_files.specs.Rows.{Goes, HasRead};
+ghost use Rattle.rs_import_files.specs.Csv.{AreRecordsOf, AreTitles, AreVrpsBelow, IsCsvOfVrps, IsVrpRecord};
+ghost use Rattle.rs_import_files.specs.Csv.{is_counted};
+ghost use Rattle.rs_import_files.specs.Faults.{Refuses, is_of_file};
+ghost use Rattle.rs_import_files.specs.Rows.{Goes, HasRead, is_utf8_fault};
+ghost use Rattle.rs_import_files.specs.Texts.{StandsForNone};
 
+use crate::cuts::has_colon;
 use crate::fault::{Flaw, ListFault};
+use crate::octets::{not_utf8, record_line};
 use crate::reasons::{need_length, need_number, need_prefix, need_vrp};
-use csv::{ErrorKind, Reader, ReaderBuilder, StringRecord};
+use csv::{ErrorKind, Position, Reader, ReaderBuilder, StringRecord};
 use rs_import::Vrp;
 use std::alloc::Global;
 
 // The VRPs that octets of CSV give.
 pub(crate) fn csv_vrps(alloc: Global, octets: &[u8]) -> Result<Vec<Vrp>, ListFault>
-    ensures { IfOk result (λ vrps. IsCsvOfVrps (strip_bom octets.now) vrps.items) }
+    ensures found { IfOk result (λ vrps. IsCsvOfVrps (strip_bom octets.now) vrps.items) }
+    ensures refused { IfErr result (Refuses IsCsvOfVrps (strip_bom octets.now)) }
 {
     let mut reader = reader_of(alloc, octets);
     let mut row = StringRecord::new(alloc);
-    vrps_of(alloc, &mut reader, &mut row)
+    vrps_of(alloc, octets, &mut reader, &mut row)
 }
 
-// The VRPs of a reader at the front of a text.
+// The VRPs of a reader at the front of a file's octets.
 fn vrps_of(
     alloc: Global,
+    octets: &[u8],
     reader: &mut Reader<&[u8]>,
     row: &mut StringRecord,
 ) -> Result<Vec<Vrp>, ListFault>
-    ensures { IfOk result (λ vrps. (text : List ℕ) → HasRead text [] reader.old → IsCsvOfVrps text vrps.items) }
+    ensures found { IfOk result (λ vrps. (text : List ℕ) → HasRead text [] reader.old → IsCsvOfVrps text vrps.items) }
+    ensures refused { IfErr result (λ fault. (text : List ℕ) → HasRead text [] reader.old
+        → Refuses IsCsvOfVrps text fault) }
 {
-    if !next_row(alloc, reader, row)? {
+    if !next_row(alloc, octets, reader, row)? {
         return Ok(Vec::new(alloc));
     }
-    need_titles(alloc, row)?;
-    vrps_below(alloc, reader, row)
+    need_titles(alloc, octets, row)?;
+    vrps_below(alloc, octets, reader, row)
 }
 
 // The VRPs that are left behind the titles.
 fn vrps_below(
     alloc: Global,
+    octets: &[u8],
     reader: &mut Reader<&[u8]>,
     row: &mut StringRecord,
 ) -> Result<Vec<Vrp>, ListFault>
-    ensures { IfOk result (λ vrps. (text : List ℕ) (titles : List (List ℕ)) → HasRead text (titles ∷ []) reader.old
-        → (rows : List (List (List ℕ))) × AreRecordsOf text (titles ∷ rows) × AreVrps rows vrps.items) }
+    ensures found { IfOk result (λ vrps. (text : List ℕ) (titles : List (List ℕ))
+        → HasRead text (titles ∷ []) reader.old → AreVrpsBelow titles text vrps.items) }
+    ensures refused { IfErr result (λ fault. (text : List ℕ) (titles : List (List ℕ))
+        → HasRead text (titles ∷ []) reader.old → Refuses (AreVrpsBelow titles) text fault) }
 {
     let mut vrps = Vec::new(alloc);
     for _turn in 0..u32::MAX {
-        if !next_row(alloc, reader, row)? {
+        if !next_row(alloc, octets, reader, row)? {
             return Ok(vrps);
         }
-        if let Some(vrp) = vrp_on_line(alloc, row)? {
+        if let Some(vrp) = vrp_on_line(alloc, octets, row)? {
             vrps.push(vrp)?;
         }
     }
@@ -70,89 +82,101 @@ fn reader_of(alloc: Global, octets: &[u8]) -> Reader<&[u8]>
 // Reads the next row, or answers that there is none left.
 fn next_row(
     alloc: Global,
+    octets: &[u8],
     reader: &mut Reader<&[u8]>,
     row: &mut StringRecord,
 ) -> Result<bool, ListFault>
-    ensures { IfOk result (λ found. (text : List ℕ) (records : List (List (List ℕ))) → HasRead text records reader.old
-        → Goes text records (fields_of row.new) reader.new found) }
+    ensures found { IfOk result (λ found. (text : List ℕ) (records : List (List (List ℕ)))
+        → HasRead text records reader.old → Goes text records (fields_of row.new) reader.new found) }
+    ensures refused { IfErr result (λ fault. (text : List ℕ) (records : List (List (List ℕ)))
+        → HasRead text records reader.old → Refuses AreRecordsOf text fault) }
 {
     match reader.read_record(row) {
         Ok(found) => Ok(found),
-        Err(error) => Err(not_text(alloc, reader.position().line() as usize, error.kind())),
+        Err(error) => Err(not_text(alloc, octets, error.kind())),
     }
 }
 
-// The fault of a line that isn't read.
-fn not_text(alloc: Global, line: usize, kind: &ErrorKind) -> ListFault {
+// The fault of a record that isn't read.
+fn not_text(alloc: Global, octets: &[u8], kind: &ErrorKind) -> ListFault
+    ensures { is_of_file result ≡ true → is_utf8_fault kind.now ≡ true }
+{
     match kind {
-        ErrorKind::Utf8 { .. } => match String::from_str(alloc, "the octets are not UTF-8") {
-            Ok(reason) => ListFault::Line(line, reason),
-            Err(_) => ListFault::Memory,
-        },
+        ErrorKind::Utf8 { pos, .. } => not_utf8(alloc, line_of(octets, *pos)),
         _ => ListFault::Memory,
     }
 }
 
 // Tests that the first title is ASN.
-fn need_titles(alloc: Global, row: &StringRecord) -> Result<(), ListFault>
-    ensures { IfOk result (λ _. AreTitles (fields_of row.now)) }
+fn need_titles(alloc: Global, octets: &[u8], row: &StringRecord) -> Result<(), ListFault>
+    ensures found { IfOk result (λ _. AreTitles (fields_of row.now)) }
+    ensures none { IfErr result (λ _. ¬ (AreTitles (fields_of row.now))) }
 {
     match row.get(0) {
         Some("ASN") => Ok(()),
-        _ => Err(ListFault::Line(
-            line_of(row),
-            String::from_str(alloc, "the first title is not ASN")?,
-        )),
+        _ => Err(Flaw::of(String::from_str(alloc, "the first title is not ASN")).on_line(line_of(
+            octets,
+            row.position(),
+        ))),
     }
 }
 
 // The VRP of a record, or none if its prefix is of IPv6.
-fn vrp_on_line(alloc: Global, row: &StringRecord) -> Result<Option<Vrp>, ListFault>
-    ensures { IfOk result (λ found. MatchOption found (is_counted (fields_of row.now) ≡ false)
+fn vrp_on_line(alloc: Global, octets: &[u8], row: &StringRecord) -> Result<Option<Vrp>, ListFault>
+    ensures found { IfOk result (λ found. MatchOption found (is_counted (fields_of row.now) ≡ false)
         (λ vrp. (is_counted (fields_of row.now) ≡ true) × IsVrpRecord (fields_of row.now) vrp)) }
+    ensures none { IfErr result
+        (λ _. (is_counted (fields_of row.now) ≡ true) × StandsForNone IsVrpRecord (fields_of row.now)) }
 {
     match vrp_of(alloc, row) {
         Ok(found) => Ok(found),
-        Err(flaw) => Err(flaw.on_line(line_of(row))),
+        Err(flaw) => Err(flaw.on_line(line_of(octets, row.position()))),
     }
 }
 
-// The line of a record, counted from 1.
-fn line_of(row: &StringRecord) -> usize {
-    match row.position() {
-        Some(position) => position.line() as usize,
-        None => 0,
+// The line of some octets, counted from 1, on which the record of a position begins.
+fn line_of(octets: &[u8], position: Option<Position>) -> usize {
+    match position {
+        Some(position) => record_line(octets, position.byte() as usize),
+        None => 1,
     }
 }
 
 // The VRP of a record, or none if its prefix is of IPv6.
 fn vrp_of(alloc: Global, row: &StringRecord) -> Result<Option<Vrp>, Flaw>
-    ensures { IfOk result (λ found. MatchOption found (is_counted (fields_of row.now) ≡ false)
+    ensures found { IfOk result (λ found. MatchOption found (is_counted (fields_of row.now) ≡ false)
         (λ vrp. (is_counted (fields_of row.now) ≡ true) × IsVrpRecord (fields_of row.now) vrp)) }
+    ensures none { IfErr result
+        (λ _. (is_counted (fields_of row.now) ≡ true) × StandsForNone IsVrpRecord (fields_of row.now)) }
 {
     let prefix = need_field(alloc, row, 1)?;
     if has_colon(prefix) {
         return Ok(None);
     }
-    let asn = need_number(alloc, need_field(alloc, row, 0)?)?;
-    let prefix = need_prefix(alloc, prefix)?;
-    let max_len = need_length(alloc, need_field(alloc, row, 2)?)?;
-    Ok(Some(need_vrp(alloc, asn, prefix, max_len)?))
+    Ok(Some(ipv4_vrp(alloc, row, prefix)?))
+}
+
+// The VRP of a record with a prefix of IPv4.
+fn ipv4_vrp(alloc: Global, row: &StringRecord, prefix: &str) -> Result<Vrp, Flaw>
+    requires { field_at (fields_of row.now) 1 ≡ Some prefix.now }
+    ensures found { IfOk result (IsVrpRecord (fields_of row.now)) }
+    ensures none { IfErr result (λ _. StandsForNone IsVrpRecord (fields_of row.now)) }
+{
+    let number = need_field(alloc, row, 0)?;
+    let asn = need_number(alloc, number)?;
+    let ipv4 = need_prefix(alloc, prefix)?;
+    let maximum = need_field(alloc, row, 2)?;
+    let max_len = need_length(alloc, maximum)?;
+    need_vrp(alloc, asn, ipv4, max_len)
 }
 
 // The field at a place, which must be there.
 fn need_field<'a>(alloc: Global, row: &'a StringRecord, place: usize) -> Result<&'a str, Flaw>
-    ensures { IfOk result (λ field. field_at (fields_of row.now) place ≡ Some field.now) }
+    ensures found { IfOk result (λ field. field_at (fields_of row.now) place ≡ Some field.now) }
+    ensures none { IfErr result (λ _. field_at (fields_of row.now) place ≡ None) }
 {
     match row.get(place) {
         Some(field) => Ok(field),
-        None => Err(Flaw::Reason(String::from_str(alloc, "there are fewer than three fields")?)),
+        None => Err(Flaw::of(String::from_str(alloc, "there are fewer than three fields"))),
     }
-}
-
-// Whether a text has a colon.
-pub(crate) fn has_colon(text: &str) -> bool
-    ensures { result ≡ has_colon text.now }
-{
-    text.as_bytes().iter().any(|octet| *octet == b':')
 }

@@ -52,6 +52,14 @@ pub(crate) enum Flaw {
 }
 
 impl Flaw {
+    // The flaw with a reason, if there is memory for its words.
+    pub(crate) fn of(reason: Result<String, AllocError>) -> Flaw {
+        match reason {
+            Ok(reason) => Flaw::Reason(reason),
+            Err(_) => Flaw::Memory,
+        }
+    }
+
     // The fault of a line, counted from 1.
     pub(crate) fn on_line(self, line: usize) -> ListFault {
         match self {
@@ -66,11 +74,5 @@ impl Flaw {
             Flaw::Reason(reason) => ListFault::Row(row, reason),
             Flaw::Memory => ListFault::Memory,
         }
-    }
-}
-
-impl From<AllocError> for Flaw {
-    fn from(_refused: AllocError) -> Flaw {
-        Flaw::Memory
     }
 }

@@ -1,56 +1,85 @@
 //! VRPs and lists as JSON: the `roas` of a VRP file, and the lists of an object.
 
-ghost use Rattle.std.specs.Prelude.{◌≡◌, List, IfOk, MatchOption, Ok, Some, codes, false, true, if◌then◌else◌, map};
-ghost use Rattle.std.specs.List.{AllZip, filter};
-ghost use Rattle.json.specs.Json.{Json, array};
+ghost use Rattle.std.specs.Prelude.{◌≡◌, List, Err, IfErr, IfOk, IsSomeAnd, MatchOption, None, Ok, Some, codes};
+ghost use Rattle.std.specs.Prelude.{false, if◌then◌else◌, map, true};
 ghost use Rattle.json.specs.Find.{get};
-ghost use Rattle.json.specs.Value.{items_of, members_view, value_view};
-ghost use Rattle.rs_import_files.specs.JsonRows.{IsJsonOfPatterns, IsJsonOfRanges, IsJsonOfVrps};
-ghost use Rattle.rs_import_files.specs.JsonRows.{IsPatternRow, IsRangeRow, IsVrpRow, ListsHave, counts, has_bound};
-ghost use Rattle.rs_import_files.specs.Texts.{AreBounds};
+ghost use Rattle.json.specs.Json.{document};
+ghost use Rattle.json.specs.Value.{members_view, value_view};
+ghost use Rattle.rs_import.specs.declared.vrp.Vrp.{Vrp};
+ghost use Rattle.rs_import_files.specs.declared.fault.Flaw.{Flaw};
+ghost use Rattle.rs_import_files.specs.Faults.{Refuses, is_of_file};
+ghost use Rattle.rs_import_files.specs.JsonRows.{AreListsOf, ArePatternRows, AreRangeRows, AreVrpRows};
+ghost use Rattle.rs_import_files.specs.JsonRows.{IsJsonOfPatterns, IsJsonOfRanges, IsJsonOfVrps, IsListOf};
+ghost use Rattle.rs_import_files.specs.JsonRows.{IsPatternRow, IsRangeRow, IsVrpRow, counts, has_bound, text_at};
+ghost use Rattle.rs_import_files.specs.Texts.{AreBounds, StandsForNone};
 
-use crate::csv_vrps::has_colon;
+use crate::cuts::has_colon;
 use crate::fault::{Flaw, ListFault};
 use crate::json_values::{
     bound_or, has_bound, need_as_value, need_lawful_exact, need_length_value, need_member,
     need_text,
 };
+use crate::octets::line_at;
 use crate::patterns::within;
 use crate::reasons::{need_prefix, need_vrp};
-use json::{Error, Scratch, Value};
+use json::{Error, MAX_DEPTH, Reader, Scratch, Value};
 use rs_import::{AsRange, Pattern, Vrp};
 use rs_types::Prefix;
 use std::alloc::Global;
 
 // The VRP of a row, or none if its prefix is of IPv6.
 fn vrp_of(alloc: Global, row: &Value<'_>) -> Result<Option<Vrp>, Flaw>
-    ensures { IfOk result (λ found. MatchOption found (counts (value_view row.now) ≡ false)
+    ensures found { IfOk result (λ found. MatchOption found (counts (value_view row.now) ≡ false)
         (λ vrp. (counts (value_view row.now) ≡ true) × IsVrpRow (value_view row.now) vrp)) }
-{
-    let prefix = need_text(alloc, row, "prefix")?;
-    if has_colon(prefix) {
-        return Ok(None);
-    }
-    let asn = need_as_value(alloc, need_member(alloc, row, "asn")?)?;
-    let prefix = need_prefix(alloc, prefix)?;
-    let max_len = need_length_value(alloc, "maxLength", need_member(alloc, row, "maxLength")?)?;
-    Ok(Some(need_vrp(alloc, asn, prefix, max_len)?))
-}
-
-// The pattern of a row, or none if its prefix is of IPv6.
-fn pattern_of(alloc: Global, row: &Value<'_>) -> Result<Option<Pattern>, Flaw>
-    ensures { IfOk result (λ found. MatchOption found (counts (value_view row.now) ≡ false)
-        (λ pattern. (counts (value_view row.now) ≡ true) × IsPatternRow (value_view row.now) pattern)) }
+    ensures none { IfErr result
+        (λ _. (counts (value_view row.now) ≡ true) × StandsForNone IsVrpRow (value_view row.now)) }
 {
     let text = need_text(alloc, row, "prefix")?;
     if has_colon(text) {
         return Ok(None);
     }
+    Ok(Some(ipv4_vrp(alloc, row, text)?))
+}
+
+// The VRP of a row with a prefix of IPv4.
+fn ipv4_vrp(alloc: Global, row: &Value<'_>, text: &str) -> Result<Vrp, Flaw>
+    requires { text_at (codes "prefix") (value_view row.now) ≡ Some text.now }
+    ensures found { IfOk result (IsVrpRow (value_view row.now)) }
+    ensures none { IfErr result (λ _. StandsForNone IsVrpRow (value_view row.now)) }
+{
+    let number = need_member(alloc, row, "asn")?;
+    let asn = need_as_value(alloc, number)?;
+    let prefix = need_prefix(alloc, text)?;
+    let maximum = need_member(alloc, row, "maxLength")?;
+    let max_len = need_length_value(alloc, "maxLength", maximum)?;
+    need_vrp(alloc, asn, prefix, max_len)
+}
+
+// The pattern of a row, or none if its prefix is of IPv6.
+fn pattern_of(alloc: Global, row: &Value<'_>) -> Result<Option<Pattern>, Flaw>
+    ensures found { IfOk result (λ found. MatchOption found (counts (value_view row.now) ≡ false)
+        (λ pattern. (counts (value_view row.now) ≡ true) × IsPatternRow (value_view row.now) pattern)) }
+    ensures none { IfErr result
+        (λ _. (counts (value_view row.now) ≡ true) × StandsForNone IsPatternRow (value_view row.now)) }
+{
+    let text = need_text(alloc, row, "prefix")?;
+    if has_colon(text) {
+        return Ok(None);
+    }
+    Ok(Some(ipv4_pattern(alloc, row, text)?))
+}
+
+// The pattern of a row with a prefix of IPv4.
+fn ipv4_pattern(alloc: Global, row: &Value<'_>, text: &str) -> Result<Pattern, Flaw>
+    requires { text_at (codes "prefix") (value_view row.now) ≡ Some text.now }
+    ensures found { IfOk result (IsPatternRow (value_view row.now)) }
+    ensures none { IfErr result (λ _. StandsForNone IsPatternRow (value_view row.now)) }
+{
     let prefix = need_prefix(alloc, text)?;
     let least = bound_or(alloc, row, "greater-equal", prefix.len())?;
     let most = bound_or(alloc, row, "less-equal", greatest(row, prefix))?;
     need_lawful_exact(alloc, row)?;
-    Ok(Some(need_within(alloc, prefix, least, most)?))
+    need_within(alloc, prefix, least, most)
 }
 
 // The most length of a row that doesn't tell it.
@@ -66,20 +95,22 @@ fn greatest(row: &Value<'_>, prefix: Prefix) -> u8
 
 // The pattern of a prefix and bounds, which must lie between the prefix's length and 32.
 fn need_within(alloc: Global, prefix: Prefix, least: u8, most: u8) -> Result<Pattern, Flaw>
-    ensures { IfOk result (λ pattern. (pattern ≡ record { prefix = prefix; least = least; most = most })
+    ensures found { IfOk result (λ pattern. (pattern ≡ record { prefix = prefix; least = least; most = most })
         × AreBounds prefix.len least most) }
+    ensures none { IfErr result (λ _. ¬ (AreBounds prefix.len least most)) }
 {
     match within(prefix, (least, most)) {
         Some(pattern) => Ok(pattern),
-        None => Err(Flaw::Reason(format!(in alloc;
+        None => Err(Flaw::of(format!(in alloc;
             "the bounds {least} and {most} do not ascend from the prefix's length"
-        )?)),
+        ))),
     }
 }
 
 // The range of a row.
 fn range_of(alloc: Global, row: &Value<'_>) -> Result<AsRange, Flaw>
-    ensures { IfOk result (IsRangeRow (value_view row.now)) }
+    ensures found { IfOk result (IsRangeRow (value_view row.now)) }
+    ensures none { IfErr result (λ _. StandsForNone IsRangeRow (value_view row.now)) }
 {
     let asn = need_as_value(alloc, row)?;
     Ok(AsRange {
@@ -90,7 +121,8 @@ fn range_of(alloc: Global, row: &Value<'_>) -> Result<AsRange, Flaw>
 
 // The VRPs of some rows.
 fn vrps_of(alloc: Global, rows: &[Value<'_>]) -> Result<Vec<Vrp>, ListFault>
-    ensures { IfOk result (λ vrps. AllZip IsVrpRow (filter counts (map value_view rows.now)) vrps.items) }
+    ensures found { IfOk result (λ vrps. AreVrpRows (map value_view rows.now) vrps.items) }
+    ensures refused { IfErr result (Refuses AreVrpRows (map value_view rows.now)) }
 {
     let mut vrps = Vec::new(alloc);
     for (index, row) in rows.iter().enumerate() {
@@ -103,8 +135,8 @@ fn vrps_of(alloc: Global, rows: &[Value<'_>]) -> Result<Vec<Vrp>, ListFault>
 
 // The patterns of some rows, which stand behind others.
 fn patterns_of(alloc: Global, rows: &[Value<'_>], before: usize) -> Result<Vec<Pattern>, ListFault>
-    ensures { IfOk result (λ patterns.
-        AllZip IsPatternRow (filter counts (map value_view rows.now)) patterns.items) }
+    ensures found { IfOk result (λ patterns. ArePatternRows (map value_view rows.now) patterns.items) }
+    ensures refused { IfErr result (Refuses ArePatternRows (map value_view rows.now)) }
 {
     let mut patterns = Vec::new(alloc);
     for (index, row) in rows.iter().enumerate() {
@@ -117,7 +149,8 @@ fn patterns_of(alloc: Global, rows: &[Value<'_>], before: usize) -> Result<Vec<P
 
 // The ranges of some rows, which stand behind others.
 fn ranges_of(alloc: Global, rows: &[Value<'_>], before: usize) -> Result<Vec<AsRange>, ListFault>
-    ensures { IfOk result (λ ranges. AllZip IsRangeRow (map value_view rows.now) ranges.items) }
+    ensures found { IfOk result (λ ranges. AreRangeRows (map value_view rows.now) ranges.items) }
+    ensures refused { IfErr result (Refuses AreRangeRows (map value_view rows.now)) }
 {
     let mut ranges = Vec::new(alloc);
     for (index, row) in rows.iter().enumerate() {
@@ -128,7 +161,8 @@ fn ranges_of(alloc: Global, rows: &[Value<'_>], before: usize) -> Result<Vec<AsR
 
 // What was read of the row at an index, or why it is wrong. Other rows stand before.
 fn in_row<T: Drop>(before: usize, index: usize, read: Result<T, Flaw>) -> Result<T, ListFault>
-    ensures { IfOk result (λ found. read ≡ Ok found) }
+    ensures found { IfOk result (λ found. read ≡ Ok found) }
+    ensures wrong { IfErr result (λ _. (flaw : Flaw) × (read ≡ Err flaw)) }
 {
     match read {
         Ok(found) => Ok(found),
@@ -138,8 +172,8 @@ fn in_row<T: Drop>(before: usize, index: usize, read: Result<T, Flaw>) -> Result
 
 // The patterns of all lists of an object.
 fn all_patterns(alloc: Global, members: &[(&str, Value<'_>)]) -> Result<Vec<Pattern>, ListFault>
-    ensures { IfOk result (λ patterns. (rows : List Json) × ListsHave (members_view members.now) rows
-        × AllZip IsPatternRow (filter counts rows) patterns.items) }
+    ensures found { IfOk result (λ patterns. AreListsOf ArePatternRows (members_view members.now) patterns.items) }
+    ensures refused { IfErr result (Refuses (AreListsOf ArePatternRows) (members_view members.now)) }
 {
     let mut patterns = Vec::new(alloc);
     let mut before = 0usize;
@@ -153,8 +187,8 @@ fn all_patterns(alloc: Global, members: &[(&str, Value<'_>)]) -> Result<Vec<Patt
 
 // The ranges of all lists of an object.
 fn all_ranges(alloc: Global, members: &[(&str, Value<'_>)]) -> Result<Vec<AsRange>, ListFault>
-    ensures { IfOk result (λ ranges. (rows : List Json) × ListsHave (members_view members.now) rows
-        × AllZip IsRangeRow rows ranges.items) }
+    ensures found { IfOk result (λ ranges. AreListsOf AreRangeRows (members_view members.now) ranges.items) }
+    ensures refused { IfErr result (Refuses (AreListsOf AreRangeRows) (members_view members.now)) }
 {
     let mut ranges = Vec::new(alloc);
     let mut before = 0usize;
@@ -168,8 +202,8 @@ fn all_ranges(alloc: Global, members: &[(&str, Value<'_>)]) -> Result<Vec<AsRang
 
 // The patterns of a list, which a value must be.
 fn patterns_in(alloc: Global, value: &Value<'_>, before: usize) -> Result<Vec<Pattern>, ListFault>
-    ensures { IfOk result (λ patterns. (rows : List Json) × (value_view value.now ≡ array (items_of rows))
-        × AllZip IsPatternRow (filter counts rows) patterns.items) }
+    ensures found { IfOk result (λ patterns. IsListOf ArePatternRows (value_view value.now) patterns.items) }
+    ensures refused { IfErr result (Refuses (IsListOf ArePatternRows) (value_view value.now)) }
 {
     match value {
         Value::Array(rows) => patterns_of(alloc, rows.as_slice(), before),
@@ -179,8 +213,8 @@ fn patterns_in(alloc: Global, value: &Value<'_>, before: usize) -> Result<Vec<Pa
 
 // The ranges of a list, which a value must be.
 fn ranges_in(alloc: Global, value: &Value<'_>, before: usize) -> Result<Vec<AsRange>, ListFault>
-    ensures { IfOk result (λ ranges. (rows : List Json) × (value_view value.now ≡ array (items_of rows))
-        × AllZip IsRangeRow rows ranges.items) }
+    ensures found { IfOk result (λ ranges. IsListOf AreRangeRows (value_view value.now) ranges.items) }
+    ensures refused { IfErr result (Refuses (IsListOf AreRangeRows) (value_view value.now)) }
 {
     match value {
         Value::Array(rows) => ranges_of(alloc, rows.as_slice(), before),
@@ -209,58 +243,88 @@ fn whole(alloc: Global, reason: &str) -> ListFault {
     }
 }
 
-// The fault of a text that isn't read as JSON.
-fn not_json(alloc: Global, error: Error) -> ListFault {
-    match error {
-        Error::OutOfMemory => ListFault::Memory,
-        _ => whole(alloc, "the text is not JSON"),
+// The value that a text of JSON is.
+fn file_of<'a>(
+    alloc: Global,
+    text: &'a str,
+    scratch: &'a mut Scratch,
+) -> Result<Value<'a>, ListFault>
+    ensures found { IfOk result (λ file. document text.now ≡ Some (value_view file)) }
+    ensures none { IfErr result (λ fault. is_of_file fault ≡ true → document text.now ≡ None) }
+{
+    let mut reader = Reader::new(text, scratch)?;
+    match Value::read(alloc, &mut reader, MAX_DEPTH) {
+        Ok(file) => match reader.next() {
+            None => Ok(file),
+            Some(_) => Err(not_json(alloc, text, reader.offset())),
+        },
+        Err(Error::Invalid) => Err(not_json(alloc, text, reader.offset())),
+        Err(_) => Err(ListFault::Memory),
     }
+}
+
+// The fault of a text that isn't JSON from a place on.
+fn not_json(alloc: Global, text: &str, place: usize) -> ListFault {
+    Flaw::of(String::from_str(alloc, "the text is not JSON")).on_line(line_at(
+        text.as_bytes(),
+        place,
+    ))
 }
 
 // The VRPs that a text of JSON gives.
 pub(crate) fn json_vrps(alloc: Global, text: &str) -> Result<Vec<Vrp>, ListFault>
-    ensures { IfOk result (λ vrps. IsJsonOfVrps text.now vrps.items) }
+    ensures found { IfOk result (λ vrps. IsJsonOfVrps text.now vrps.items) }
+    ensures refused { IfErr result (Refuses IsJsonOfVrps text.now) }
 {
     let mut scratch = Scratch::new(alloc);
-    match Value::parse(alloc, text, &mut scratch) {
-        Ok(file) => vrps_in(alloc, &file),
-        Err(error) => Err(not_json(alloc, error)),
-    }
+    let file = file_of(alloc, text, &mut scratch)?;
+    roas_of(alloc, &file)
 }
 
 // The VRPs of a file.
-fn vrps_in(alloc: Global, file: &Value<'_>) -> Result<Vec<Vrp>, ListFault>
-    ensures { IfOk result (λ vrps. (rows : List Json)
-        × (get (codes "roas") (value_view file.now) ≡ Some (array (items_of rows)))
-        × AllZip IsVrpRow (filter counts rows) vrps.items) }
+fn roas_of(alloc: Global, file: &Value<'_>) -> Result<Vec<Vrp>, ListFault>
+    ensures found { IfOk result (λ vrps.
+        IsSomeAnd (get (codes "roas") (value_view file.now)) (λ roas. IsListOf AreVrpRows roas vrps.items)) }
+    ensures refused { IfErr result (λ fault. is_of_file fault ≡ true → (vrps : List Vrp)
+        → ¬ (IsSomeAnd (get (codes "roas") (value_view file.now)) (λ roas. IsListOf AreVrpRows roas vrps))) }
 {
     match file.get("roas") {
-        Some(Value::Array(rows)) => vrps_of(alloc, rows.as_slice()),
-        Some(_) => Err(whole(alloc, "roas is not a list")),
+        Some(roas) => vrps_in(alloc, roas),
         None => Err(whole(alloc, "roas is missing")),
+    }
+}
+
+// The VRPs of a list, which a value must be.
+fn vrps_in(alloc: Global, value: &Value<'_>) -> Result<Vec<Vrp>, ListFault>
+    ensures found { IfOk result (λ vrps. IsListOf AreVrpRows (value_view value.now) vrps.items) }
+    ensures refused { IfErr result (Refuses (IsListOf AreVrpRows) (value_view value.now)) }
+{
+    match value {
+        Value::Array(rows) => vrps_of(alloc, rows.as_slice()),
+        _ => Err(whole(alloc, "roas is not a list")),
     }
 }
 
 // The patterns that a text of JSON gives.
 pub(crate) fn json_patterns(alloc: Global, text: &str) -> Result<Vec<Pattern>, ListFault>
-    ensures { IfOk result (λ patterns. IsJsonOfPatterns text.now patterns.items) }
+    ensures found { IfOk result (λ patterns. IsJsonOfPatterns text.now patterns.items) }
+    ensures refused { IfErr result (Refuses IsJsonOfPatterns text.now) }
 {
     let mut scratch = Scratch::new(alloc);
-    match Value::parse(alloc, text, &mut scratch) {
-        Ok(Value::Object(members)) => all_patterns(alloc, members.as_slice()),
-        Ok(_) => Err(whole(alloc, "the JSON is not an object")),
-        Err(error) => Err(not_json(alloc, error)),
+    match file_of(alloc, text, &mut scratch)? {
+        Value::Object(members) => all_patterns(alloc, members.as_slice()),
+        _ => Err(whole(alloc, "the JSON is not an object")),
     }
 }
 
 // The ranges that a text of JSON gives.
 pub(crate) fn json_ranges(alloc: Global, text: &str) -> Result<Vec<AsRange>, ListFault>
-    ensures { IfOk result (λ ranges. IsJsonOfRanges text.now ranges.items) }
+    ensures found { IfOk result (λ ranges. IsJsonOfRanges text.now ranges.items) }
+    ensures refused { IfErr result (Refuses IsJsonOfRanges text.now) }
 {
     let mut scratch = Scratch::new(alloc);
-    match Value::parse(alloc, text, &mut scratch) {
-        Ok(Value::Object(members)) => all_ranges(alloc, members.as_slice()),
-        Ok(_) => Err(whole(alloc, "the JSON is not an object")),
-        Err(error) => Err(not_json(alloc, error)),
+    match file_of(alloc, text, &mut scratch)? {
+        Value::Object(members) => all_ranges(alloc, members.as_slice()),
+        _ => Err(whole(alloc, "the JSON is not an object")),
     }
 }

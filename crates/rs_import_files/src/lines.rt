@@ -1,10 +1,15 @@
-//! Lists as lines of a text: one entry a line, blank lines, and comments that begin with `#`.
+//! Lists as lines of a text: one entry a line, blank lines, and comments that begin with `#`. Patterns of IPv6 are
+//! passed over.
 
-ghost use Rattle.std.specs.Prelude.{◌≡◌, IfOk, Ok, map};
+ghost use Rattle.std.specs.Prelude.{◌≡◌, Err, IfErr, IfOk, MatchOption, Ok, false, map, true};
 ghost use Rattle.std.specs.Str.Lines.{lines};
-ghost use Rattle.rs_import_files.specs.Lines.{AreEntries, IsTextList, said_by};
-ghost use Rattle.rs_import_files.specs.Texts.{IsAsEntry, IsPattern};
+ghost use Rattle.rs_import_files.specs.declared.fault.Flaw.{Flaw};
+ghost use Rattle.rs_import_files.specs.Faults.{Refuses};
+ghost use Rattle.rs_import_files.specs.Lines.{AreEntries, IsTextOfPatterns, IsTextOfRanges, is_entry, is_ipv4_entry};
+ghost use Rattle.rs_import_files.specs.Lines.{said_by};
+ghost use Rattle.rs_import_files.specs.Texts.{IsAsEntry, IsPattern, StandsForNone};
 
+use crate::cuts::is_ipv6;
 use crate::fault::{Flaw, ListFault};
 use crate::reasons::{need_pattern, need_range};
 use rs_import::{AsRange, Pattern};
@@ -12,49 +17,84 @@ use std::alloc::{AllocError, Global};
 
 // The patterns that the lines of a text are.
 pub(crate) fn patterns(alloc: Global, text: &str) -> Result<Vec<Pattern>, ListFault>
-    ensures { IfOk result (λ patterns. IsTextList IsPattern text.now patterns.items) }
+    ensures found { IfOk result (λ patterns. IsTextOfPatterns text.now patterns.items) }
+    ensures refused { IfErr result (Refuses IsTextOfPatterns text.now) }
 {
-    patterns_of(alloc, lines_of(alloc, text)?.as_slice())
+    let lines = lines_of(alloc, text)?;
+    patterns_of(alloc, lines.as_slice())
 }
 
 // The patterns that some lines are.
 fn patterns_of(alloc: Global, lines: &[&str]) -> Result<Vec<Pattern>, ListFault>
-    ensures { IfOk result (λ patterns. AreEntries IsPattern (map (λ line. line.now) lines.now) patterns.items) }
+    ensures found { IfOk result (λ patterns.
+        AreEntries is_ipv4_entry IsPattern (map (λ line. line.now) lines.now) patterns.items) }
+    ensures refused { IfErr result
+        (Refuses (AreEntries is_ipv4_entry IsPattern) (map (λ line. line.now) lines.now)) }
 {
     let mut patterns = Vec::new(alloc);
     for (index, line) in lines.iter().enumerate() {
-        let said = said_by(line);
-        if !said.is_empty() {
-            patterns.push(on_line(index, need_pattern(alloc, said))?)?;
+        if let Some(pattern) = on_line(index, pattern_said(alloc, line))? {
+            patterns.push(pattern)?;
         }
     }
     Ok(patterns)
 }
 
+// The pattern that a line says, or none if it says nothing or a prefix of IPv6.
+fn pattern_said(alloc: Global, line: &str) -> Result<Option<Pattern>, Flaw>
+    ensures found { IfOk result (λ found. MatchOption found (is_ipv4_entry line.now ≡ false)
+        (λ pattern. (is_ipv4_entry line.now ≡ true) × IsPattern (said_by line.now) pattern)) }
+    ensures none { IfErr result (λ _. (is_ipv4_entry line.now ≡ true) × StandsForNone IsPattern (said_by line.now)) }
+{
+    let said = said_by(line);
+    if said.is_empty() || is_ipv6(said) {
+        return Ok(None);
+    }
+    Ok(Some(need_pattern(alloc, said)?))
+}
+
 // The ranges that the lines of a text are.
 pub(crate) fn ranges(alloc: Global, text: &str) -> Result<Vec<AsRange>, ListFault>
-    ensures { IfOk result (λ ranges. IsTextList IsAsEntry text.now ranges.items) }
+    ensures found { IfOk result (λ ranges. IsTextOfRanges text.now ranges.items) }
+    ensures refused { IfErr result (Refuses IsTextOfRanges text.now) }
 {
-    ranges_of(alloc, lines_of(alloc, text)?.as_slice())
+    let lines = lines_of(alloc, text)?;
+    ranges_of(alloc, lines.as_slice())
 }
 
 // The ranges that some lines are.
 fn ranges_of(alloc: Global, lines: &[&str]) -> Result<Vec<AsRange>, ListFault>
-    ensures { IfOk result (λ ranges. AreEntries IsAsEntry (map (λ line. line.now) lines.now) ranges.items) }
+    ensures found { IfOk result (λ ranges.
+        AreEntries is_entry IsAsEntry (map (λ line. line.now) lines.now) ranges.items) }
+    ensures refused { IfErr result
+        (Refuses (AreEntries is_entry IsAsEntry) (map (λ line. line.now) lines.now)) }
 {
     let mut ranges = Vec::new(alloc);
     for (index, line) in lines.iter().enumerate() {
-        let said = said_by(line);
-        if !said.is_empty() {
-            ranges.push(on_line(index, need_range(alloc, said))?)?;
+        if let Some(range) = on_line(index, range_said(alloc, line))? {
+            ranges.push(range)?;
         }
     }
     Ok(ranges)
 }
 
+// The range that a line says, or none if it says nothing.
+fn range_said(alloc: Global, line: &str) -> Result<Option<AsRange>, Flaw>
+    ensures found { IfOk result (λ found. MatchOption found (is_entry line.now ≡ false)
+        (λ range. (is_entry line.now ≡ true) × IsAsEntry (said_by line.now) range)) }
+    ensures none { IfErr result (λ _. (is_entry line.now ≡ true) × StandsForNone IsAsEntry (said_by line.now)) }
+{
+    let said = said_by(line);
+    if said.is_empty() {
+        return Ok(None);
+    }
+    Ok(Some(need_range(alloc, said)?))
+}
+
 // What was read of the line at an index, or why it is wrong.
 fn on_line<T: Drop>(index: usize, read: Result<T, Flaw>) -> Result<T, ListFault>
-    ensures { IfOk result (λ found. read ≡ Ok found) }
+    ensures found { IfOk result (λ found. read ≡ Ok found) }
+    ensures wrong { IfErr result (λ _. (flaw : Flaw) × (read ≡ Err flaw)) }
 {
     match read {
         Ok(found) => Ok(found),

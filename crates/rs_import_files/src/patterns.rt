@@ -1,7 +1,7 @@
 //! Patterns of prefixes as texts, as BIRD 2 writes them in prefix sets.
 
-ghost use Rattle.std.specs.Prelude.{◌≡◌, IfSome};
-ghost use Rattle.rs_import_files.specs.Texts.{AreBounds, AreWritten, IsPattern};
+ghost use Rattle.std.specs.Prelude.{◌≡◌, ◌≢◌, ◌++◌, ℕ, List, IfNone, IfSome, codes};
+ghost use Rattle.rs_import_files.specs.Texts.{AreBounds, AreWritten, IsPattern, StandsForNone};
 
 use crate::cuts::{cut_at, without_last};
 use crate::numbers::length;
@@ -9,10 +9,11 @@ use crate::prefixes::read_prefix;
 use rs_import::Pattern;
 use rs_types::Prefix;
 
-/// The pattern that a text is. It is a prefix alone, or a prefix and `+`: all more specific ones match, too. Or it is a
-/// prefix and `{n,m}`: the prefixes of n to m bits inside it match.
+/// The pattern that a text is. It is a prefix alone, or a prefix and `+`: all more specific ones match, too. Or it is
+/// a prefix and `{n,m}`: the prefixes of n to m bits inside it match.
 pub fn read_pattern(text: &str) -> Option<Pattern>
-    ensures { IfSome result (IsPattern text.now) }
+    ensures found { IfSome result (IsPattern text.now) }
+    ensures none { IfNone result (StandsForNone IsPattern text.now) }
 {
     match without_last(text, '+') {
         Some(front) => Some(with_more_specific(read_prefix(front)?)),
@@ -33,7 +34,9 @@ fn with_more_specific(prefix: Prefix) -> Pattern
 
 // The pattern that a prefix alone, or one with bounds in braces, is.
 fn bounded(text: &str) -> Option<Pattern>
-    ensures { IfSome result (IsPattern text.now) }
+    requires { (front : List ℕ) → text.now ≢ front ++ codes "+" }
+    ensures found { IfSome result (IsPattern text.now) }
+    ensures none { IfNone result (StandsForNone IsPattern text.now) }
 {
     match cut_at(text, '{') {
         Some((front, tail)) => within(read_prefix(front)?, bounds(tail)?),
@@ -54,17 +57,21 @@ fn alone(prefix: Prefix) -> Pattern
 
 // The bounds that a text gives: two lengths with a comma between them, and the closing brace.
 fn bounds(text: &str) -> Option<(u8, u8)>
-    ensures { IfSome result (AreWritten text.now) }
+    ensures found { IfSome result (AreWritten text.now) }
+    ensures none { IfNone result (StandsForNone AreWritten text.now) }
 {
-    let (least, tail) = cut_at(text, ',')?;
-    let most = without_last(tail, '}')?;
-    Some((length(least)?, length(most)?))
+    let (front, tail) = cut_at(text, ',')?;
+    let back = without_last(tail, '}')?;
+    let least = length(front)?;
+    let most = length(back)?;
+    Some((least, most))
 }
 
 // The pattern of a prefix and bounds, if they lie between the prefix's length and 32.
 pub(crate) fn within(prefix: Prefix, bounds: (u8, u8)) -> Option<Pattern>
-    ensures { IfSome result (λ pattern. (pattern ≡ record { prefix = prefix; least = bounds.0; most = bounds.1 })
+    ensures found { IfSome result (λ pattern. (pattern ≡ record { prefix = prefix; least = bounds.0; most = bounds.1 })
         × AreBounds prefix.len bounds.0 bounds.1) }
+    ensures none { IfNone result (¬ (AreBounds prefix.len bounds.0 bounds.1)) }
 {
     let (least, most) = bounds;
     if least < prefix.len() || most < least || most > 32 {

@@ -1,8 +1,8 @@
 //! Prefixes as texts.
 
-ghost use Rattle.std.specs.Prelude.{◌≡◌, ◌≤◌, IfSome};
+ghost use Rattle.std.specs.Prelude.{◌≡◌, ◌≤◌, IfNone, IfSome};
 ghost use Rattle.rs_types.specs.IpPrefix.{IsPrefix};
-ghost use Rattle.rs_import_files.specs.Texts.{IsDottedAddress, IsPrefixText};
+ghost use Rattle.rs_import_files.specs.Texts.{IsDottedAddress, IsPrefixText, StandsForNone};
 
 use crate::cuts::cut_at;
 use crate::numbers::length;
@@ -11,10 +11,13 @@ use std::net::Ipv4Addr;
 
 /// The prefix that a text is: an address, a slash and a length. It has no host bits.
 pub fn read_prefix(text: &str) -> Option<Prefix>
-    ensures { IfSome result (IsPrefixText text.now) }
+    ensures found { IfSome result (IsPrefixText text.now) }
+    ensures none { IfNone result (StandsForNone IsPrefixText text.now) }
 {
-    let (address, len) = cut_at(text, '/')?;
-    exact_prefix(dotted_address(address)?, length(len)?)
+    let (front, back) = cut_at(text, '/')?;
+    let address = dotted_address(front)?;
+    let len = length(back)?;
+    exact_prefix(address, len)
 }
 
 // Whether a text is a prefix but for its host bits.
@@ -30,7 +33,8 @@ pub(crate) fn has_host_bits(text: &str) -> bool {
 
 // The address, in host order, that a text writes with dots.
 pub(crate) fn dotted_address(text: &str) -> Option<u32>
-    ensures { IfSome result (IsDottedAddress text.now) }
+    ensures found { IfSome result (IsDottedAddress text.now) }
+    ensures none { IfNone result (StandsForNone IsDottedAddress text.now) }
 {
     match text.parse::<Ipv4Addr>() {
         Ok(address) => Some(address.to_bits()),
@@ -40,7 +44,8 @@ pub(crate) fn dotted_address(text: &str) -> Option<u32>
 
 // The prefix of an address and a length, if the address has no host bits.
 fn exact_prefix(address: u32, len: u8) -> Option<Prefix>
-    ensures { IfSome result (λ prefix. (prefix.address ≡ address) × (prefix.len ≡ len) × IsPrefix address len) }
+    ensures found { IfSome result (λ prefix. (prefix.address ≡ address) × (prefix.len ≡ len) × IsPrefix address len) }
+    ensures none { IfNone result (¬ (IsPrefix address len)) }
 {
     let prefix = Prefix::new(address, len)?;
     if prefix.address() != address {

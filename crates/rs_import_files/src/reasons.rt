@@ -1,7 +1,7 @@
 //! What must be an entry, and the reasons why a text is none, in words.
 
-ghost use Rattle.std.specs.Prelude.{◌≡◌, ◌≤◌, IfOk};
-ghost use Rattle.rs_import_files.specs.Texts.{IsAsEntry, IsAsNumber, IsLength, IsPattern, IsPrefixText};
+ghost use Rattle.std.specs.Prelude.{◌≡◌, ◌≤◌, IfErr, IfOk};
+ghost use Rattle.rs_import_files.specs.Texts.{IsAsEntry, IsAsNumber, IsLength, IsPattern, IsPrefixText, StandsForNone};
 
 use crate::fault::Flaw;
 use crate::numbers::{as_number, length};
@@ -17,67 +17,73 @@ const MOST_SHOWN: usize = 64;
 
 // The pattern that a text must be.
 pub(crate) fn need_pattern(alloc: Global, text: &str) -> Result<Pattern, Flaw>
-    ensures { IfOk result (IsPattern text.now) }
+    ensures found { IfOk result (IsPattern text.now) }
+    ensures none { IfErr result (λ _. StandsForNone IsPattern text.now) }
 {
     match read_pattern(text) {
         Some(pattern) => Ok(pattern),
-        None => Err(Flaw::Reason(why_no_pattern(alloc, text)?)),
+        None => Err(Flaw::of(why_no_pattern(alloc, text))),
     }
 }
 
 // The range of AS numbers that a text must be.
 pub(crate) fn need_range(alloc: Global, text: &str) -> Result<AsRange, Flaw>
-    ensures { IfOk result (IsAsEntry text.now) }
+    ensures found { IfOk result (IsAsEntry text.now) }
+    ensures none { IfErr result (λ _. StandsForNone IsAsEntry text.now) }
 {
     match read_as_entry(text) {
         Some(range) => Ok(range),
-        None => Err(Flaw::Reason(format!(in alloc;
+        None => Err(Flaw::of(format!(in alloc;
             "{} is neither an AS number nor an ascending range",
             shown(text)
-        )?)),
+        ))),
     }
 }
 
 // The AS number that a text must be.
 pub(crate) fn need_number(alloc: Global, text: &str) -> Result<u32, Flaw>
-    ensures { IfOk result (IsAsNumber text.now) }
+    ensures found { IfOk result (IsAsNumber text.now) }
+    ensures none { IfErr result (λ _. StandsForNone IsAsNumber text.now) }
 {
     match as_number(text) {
         Some(asn) => Ok(asn),
-        None => Err(Flaw::Reason(format!(in alloc; "{} is not an AS number", shown(text))?)),
+        None => Err(Flaw::of(format!(in alloc; "{} is not an AS number", shown(text)))),
     }
 }
 
 // The prefix that a text must be.
 pub(crate) fn need_prefix(alloc: Global, text: &str) -> Result<Prefix, Flaw>
-    ensures { IfOk result (IsPrefixText text.now) }
+    ensures found { IfOk result (IsPrefixText text.now) }
+    ensures none { IfErr result (λ _. StandsForNone IsPrefixText text.now) }
 {
     match read_prefix(text) {
         Some(prefix) => Ok(prefix),
-        None => Err(Flaw::Reason(why_no_prefix(alloc, text)?)),
+        None => Err(Flaw::of(why_no_prefix(alloc, text))),
     }
 }
 
 // The length of at most 32 bits that a text must be.
 pub(crate) fn need_length(alloc: Global, text: &str) -> Result<u8, Flaw>
-    ensures { IfOk result (IsLength text.now) }
+    ensures found { IfOk result (IsLength text.now) }
+    ensures none { IfErr result (λ _. StandsForNone IsLength text.now) }
 {
     match length(text) {
         Some(len) => Ok(len),
-        None => Err(Flaw::Reason(format!(in alloc; "{} is not a length of 0 to 32", shown(text))?)),
+        None => Err(Flaw::of(format!(in alloc; "{} is not a length of 0 to 32", shown(text)))),
     }
 }
 
 // The VRP of these three, if the maximum length isn't below the prefix's own.
 pub(crate) fn need_vrp(alloc: Global, asn: u32, prefix: Prefix, max_len: u8) -> Result<Vrp, Flaw>
-    ensures { IfOk result (λ vrp. (vrp ≡ record { prefix = prefix; max_len = max_len; asn = asn })
+    ensures found { IfOk result (λ vrp. (vrp ≡ record { prefix = prefix; max_len = max_len; asn = asn })
         × (prefix.len ≤ max_len)) }
+    ensures none { IfErr result (λ _. ¬ (prefix.len ≤ max_len)) }
 {
     let len = prefix.len();
     if max_len < len {
-        return Err(Flaw::Reason(format!(in alloc;
+        return Err(Flaw::of(format!(in alloc;
             "the maximum length {max_len} is below the prefix's length {len}"
-        )?));
+        )));
     }
     Ok(Vrp {
         prefix,

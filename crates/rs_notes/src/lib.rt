@@ -5,8 +5,8 @@
 //! record of its peer), `near` (which peer is meant then), `cut` (where a file ends within a record). `lost` finds a loss
 //! with the address of no peer. Then what notes are about: `subject`, `peers`, `contents` (what files hold), `look`
 //! (what a file shows of which nothing was kept). Then the notes: `note` (their texts), `group` (one line on several
-//! peers), `mistakes`, `doubts`, `exchange`, `notes`. What files hold, made while they are read: `outline`, `noting`,
-//! `outlines`.
+//! peers), `mistakes`, `doubts`, `import_notes`, `exchange`, `notes`. What files hold, made while they are read:
+//! `outline`, `noting`, `outlines`.
 //!
 //! A call that allocates fails if memory is refused.
 #![tactic(auto)]
@@ -18,6 +18,7 @@ mod exchange;
 mod format;
 mod group;
 mod hint;
+mod import_notes;
 mod look;
 mod lost;
 mod mistakes;
@@ -36,6 +37,7 @@ pub use contents::{Contents, contents_of, format_at, front_at};
 pub use cut::Cut;
 pub use format::Format;
 pub use hint::{Hint, hint_on};
+pub use import_notes::{BEFORE_IMPORT, add_filtered};
 pub use note::{cut_line, note_line};
 pub use notes::{Notes, notes_of, notes_on, print_texts};
 pub use noting::Noting;

@@ -8,6 +8,7 @@ use crate::contents::{Contents, add_contents, contents_of};
 use crate::doubts::Doubts;
 use crate::exchange::add_exchange;
 use crate::group::Group;
+use crate::import_notes::add_empty_lists;
 use crate::look::{Look, look_at};
 use crate::mistakes::{Mistakes, may_be_cut};
 use crate::peers::peer_of;
@@ -132,6 +133,7 @@ pub fn notes_of<R: AllocGlobal + Files>(
     told.mistakes.add_to(alloc, subject, &mut notes);
     if subject.telling == Telling::All {
         told.doubts.add_to(alloc, subject, &mut notes);
+        add_empty_lists(alloc, setup, &mut notes);
         add_exchange(rt, subject, all, &mut notes);
     }
     notes

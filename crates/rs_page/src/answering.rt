@@ -6,14 +6,14 @@ use crate::head::add_head;
 use crate::histogram::add_histogram;
 use crate::lanes::add_sessions;
 use crate::matrix::add_matrix;
-use crate::members::members_of;
+use crate::members::{members_of, names_of_filtered};
 use crate::shown::Shown;
 use crate::style::STYLE;
 use crate::times::times_of;
 use rs_glass_shell::{Reply, Unanswered, Whose, check_place, served, sessions_of, write_whole};
 use rs_host::{DONE, configuration};
 use rs_losses::Losses;
-use rs_notes::{Subject, Telling, notes_of};
+use rs_notes::{Subject, Telling, add_filtered, notes_of};
 use rs_picture::PALETTE;
 use rs_query::PageQuery;
 use rs_survey::summary_on_threads;
@@ -49,7 +49,9 @@ where
         telling: Telling::All,
         inferred: losses == Losses::Inferred,
     };
-    let notes = notes_of(rt, subject, &contents);
+    let mut notes = notes_of(rt, subject, &contents);
+    let filtered = names_of_filtered(alloc, &setup.plan, &members)?;
+    add_filtered(alloc, &filtered, &mut notes);
     let text = page_text(
         alloc,
         &Shown {

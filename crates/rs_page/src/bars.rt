@@ -22,7 +22,7 @@ const GAP: u32 = 4;
 // How far below the top of a bar the line lies on which its texts stand.
 const BASE: u32 = 10;
 
-/// A bar.
+/// A bar of a picture.
 #[derive(Clone, Copy, Drop)]
 pub(crate) struct Bar {
     /// What it stands for.
@@ -33,6 +33,40 @@ pub(crate) struct Bar {
     pub(crate) most: u64,
     /// The class of its colour.
     pub(crate) class: &'static str,
+}
+
+/// No bar.
+pub(crate) const NO_BAR: Bar = Bar {
+    label: "",
+    number: 0,
+    most: 0,
+    class: "",
+};
+
+/// Puts bars on one scale: the longest of them has the greatest number.
+pub(crate) fn scale(bars: &mut [Bar]) {
+    let most = greatest(bars);
+    for place in 0..bars.len() {
+        bars[place].most = most;
+    }
+}
+
+// The greatest number of some bars.
+fn greatest(bars: &[Bar]) -> u64 {
+    let mut most = 0;
+    for bar in bars {
+        most = most.max(bar.number);
+    }
+    most
+}
+
+/// Adds a picture of bars under its title, before the table of their numbers.
+pub(crate) fn add_figure(text: &mut String, title: &str, bars: &[Bar]) -> Result<(), AllocError> {
+    text.push_str("<figure><figcaption>")?;
+    text.push_str(title)?;
+    text.push_str("</figcaption>\n")?;
+    add_bars(text, title, "Bars of the numbers in the table below.", bars)?;
+    text.push_str("</figure>\n")
 }
 
 /// Adds a picture of bars.

@@ -11,29 +11,30 @@ use crate::members::{Measure, Member, most_of};
 use crate::shown::Shown;
 use rs_glass_shell::asn_at;
 use rs_picture::add_text;
-use std::alloc::AllocError;
+use std::alloc::{AllocError, Global};
 
 const ABOUT: &str =
     "The numbers of each peer, in two parts. The bars of a part have one scale at all peers.";
 
 // Pictures of one scale.
-struct Part {
+#[derive(Clone, Copy)]
+struct Part<'a> {
     // What they show, in the heading.
     title: &'static str,
-    // What they show, in sentences.
+    // What they show, in sentences, and what more they show if import policy is configured.
     about: &'static str,
+    filtered: &'static str,
     // What is counted.
     label: &'static str,
     // The numbers.
-    measures: &'static [Measure],
-    // The titles of their columns in the table.
-    titles: &'static [&'static str],
+    measures: &'a [Measure],
 }
 
-const ONCE: Part = Part {
+const ONCE: Part<'static> = Part {
     title: "Prefixes and routes, each counted once",
     about: "How many prefixes the peer announced, repeated ones too, and on how many it left a route. \
 Of these routes those that are not eligible, since AS_PATH has the server's AS, NEXT_HOP is the server, or NEXT_HOP is off the subnet.",
+    filtered: " Of the eligible ones those that import policy filters.",
     label: "each counted once",
     measures: &[
         Measure::Announced,
@@ -41,24 +42,17 @@ Of these routes those that are not eligible, since AS_PATH has the server's AS, 
         Measure::OwnAs,
         Measure::ServerAsNextHop,
         Measure::NextHopOffSubnet,
-    ],
-    titles: &[
-        "peer",
-        "announced",
-        "left",
-        "server AS",
-        "server hop",
-        "off subnet",
+        Measure::Filtered,
     ],
 };
 
-const FOR_EACH_CLIENT: Part = Part {
+const FOR_EACH_CLIENT: Part<'static> = Part {
     title: "Routes, counted once for each client",
     about: "What becomes of the eligible routes of the peer at all other peers as clients: refused, candidates, and of these the best ones. \
 A route that two clients get counts twice.",
+    filtered: " Filtered routes are not among them.",
     label: "counted for each client",
     measures: &[Measure::Refused, Measure::Candidates, Measure::Best],
-    titles: &["peer", "refused", "candidates", "best"],
 };
 
 /// Adds the section.
@@ -69,13 +63,20 @@ pub(crate) fn add_cards(text: &mut String, shown: &Shown<'_>) -> Result<(), Allo
     close_section(text, shown, "summary", &[])
 }
 
+// Adds those pictures of one scale that are shown, and the table behind them.
+fn add_part(text: &mut String, shown: &Shown<'_>, part: &Part<'_>) -> Result<(), AllocError> {
+    let measures = shown.measures(part.measures)?;
+    let part = Part {
+        measures: &measures,
+        ..*part
+    };
+    add_pictures(text, shown, &part)
+}
+
 // Adds the pictures of one scale, and the table behind them.
-fn add_part(text: &mut String, shown: &Shown<'_>, part: &Part) -> Result<(), AllocError> {
-    text.push_str("<h3>")?;
-    text.push_str(part.title)?;
-    text.push_str("</h3>\n<p>")?;
-    text.push_str(part.about)?;
-    text.push_str("</p>\n<div class=\"cards\">\n")?;
+fn add_pictures(text: &mut String, shown: &Shown<'_>, part: &Part<'_>) -> Result<(), AllocError> {
+    add_title(text, shown, part)?;
+    text.push_str("<div class=\"cards\">\n")?;
     let most = most_of(shown.members, part.measures);
     for (peer, member) in shown.members.iter().enumerate() {
         add_card(text, shown, (peer, member), part, most)?;
@@ -84,12 +85,21 @@ fn add_part(text: &mut String, shown: &Shown<'_>, part: &Part) -> Result<(), All
     add_table(text, shown, part)
 }
 
+// Adds the title of some pictures, and what they show.
+fn add_title(text: &mut String, shown: &Shown<'_>, part: &Part<'_>) -> Result<(), AllocError> {
+    text.push_str("<h3>")?;
+    text.push_str(part.title)?;
+    text.push_str("</h3>\n<p>")?;
+    text.push_str(&shown.about(part.about, part.filtered)?)?;
+    text.push_str("</p>\n")
+}
+
 // Adds the picture of a peer.
 fn add_card(
     text: &mut String,
     shown: &Shown<'_>,
     (peer, member): (usize, &Member),
-    part: &Part,
+    part: &Part<'_>,
     most: u64,
 ) -> Result<(), AllocError> {
     let (name, asn) = (name_of(shown, peer), asn_at(&shown.setup.plan, peer));
@@ -103,14 +113,24 @@ fn add_card(
 }
 
 // Adds the table behind the pictures.
-fn add_table(text: &mut String, shown: &Shown<'_>, part: &Part) -> Result<(), AllocError> {
-    open_table(text, part.titles)?;
+fn add_table(text: &mut String, shown: &Shown<'_>, part: &Part<'_>) -> Result<(), AllocError> {
+    open_table(text, &titles_of(shown.alloc, part.measures)?)?;
     for (peer, member) in shown.members.iter().enumerate() {
         open_row(text, name_of(shown, peer))?;
         add_numbers(text, member, part.measures)?;
         close_row(text)?;
     }
     close_table(text)
+}
+
+// The titles of the columns.
+fn titles_of(alloc: Global, measures: &[Measure]) -> Result<Vec<&'static str>, AllocError> {
+    let mut titles = Vec::new(alloc);
+    titles.push("peer")?;
+    for measure in measures {
+        titles.push(measure.label())?;
+    }
+    Ok(titles)
 }
 
 // Adds the numbers of a peer.

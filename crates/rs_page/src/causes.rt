@@ -1,9 +1,10 @@
 //! Why routes are missing, how often each step of the decision process decided, and what one decision would hide.
 
-use crate::bars::{Bar, add_bars};
+use crate::bars::{Bar, NO_BAR, add_figure, scale};
 use crate::elements::{
     add_number, close_row, close_section, close_table, name_of, open_row, open_section, open_table,
 };
+use crate::filters::add_filters;
 use crate::members::{Measure, most_of, total_of};
 use crate::shown::Shown;
 use rs_explain::STEPS;
@@ -14,6 +15,9 @@ use std::alloc::AllocError;
 
 const CAUSES_ABOUT: &str =
     "Routes that are not eligible, by the first condition that fails, and eligible ones that are refused or lost, of all peers together.";
+
+const FILTERED_ABOUT: &str =
+    " Between them stand eligible ones that import policy filters, by the first condition that fails.";
 
 const STEPS_ABOUT: &str =
     "How many candidates each step of the decision process removed, at all clients together. \
@@ -42,7 +46,8 @@ const REMOVED: Titles = Titles {
 
 /// Adds the sections of the causes and of the steps.
 pub(crate) fn add_causes(text: &mut String, shown: &Shown<'_>) -> Result<(), AllocError> {
-    open_section(text, "Why routes are missing", CAUSES_ABOUT)?;
+    let about = shown.about(CAUSES_ABOUT, FILTERED_ABOUT)?;
+    open_section(text, "Why routes are missing", &about)?;
     add_measured(
         text,
         shown,
@@ -53,6 +58,9 @@ pub(crate) fn add_causes(text: &mut String, shown: &Shown<'_>) -> Result<(), All
             Measure::NextHopOffSubnet,
         ],
     )?;
+    if shown.has_import() {
+        add_filters(text, shown)?;
+    }
     add_measured(
         text,
         shown,
@@ -86,16 +94,7 @@ fn add_measured(
 
 // Adds a picture of bars, and the table behind it.
 fn add_pictured(text: &mut String, titles: &Titles, bars: &[Bar]) -> Result<(), AllocError> {
-    text.push_str("<figure><figcaption>")?;
-    text.push_str(titles.picture)?;
-    text.push_str("</figcaption>\n")?;
-    add_bars(
-        text,
-        titles.picture,
-        "Bars of the numbers in the table below.",
-        bars,
-    )?;
-    text.push_str("</figure>\n")?;
+    add_figure(text, titles.picture, bars)?;
     open_table(text, &titles.columns)?;
     for bar in bars {
         open_row(text, bar.label)?;
@@ -107,33 +106,15 @@ fn add_pictured(text: &mut String, titles: &Titles, bars: &[Bar]) -> Result<(), 
 
 // The bars of the steps.
 fn steps_of(shown: &Shown<'_>) -> [Bar; 6] {
-    let mut numbers: [u64; 6] = [0; 6];
+    let mut bars = [NO_BAR; 6];
     for place in 0..STEPS.len() {
-        numbers[place] = shown.tally.count(Finding::Removed(STEPS[place]));
+        bars[place] = Bar {
+            label: step_name(STEPS[place]),
+            number: shown.tally.count(Finding::Removed(STEPS[place])),
+            class: "kg",
+            ..NO_BAR
+        };
     }
-    let most = greatest(&numbers);
-    let mut bars = [bar_of("", 0, most, "kg"); 6];
-    for place in 0..STEPS.len() {
-        bars[place] = bar_of(step_name(STEPS[place]), numbers[place], most, "kg");
-    }
+    scale(&mut bars);
     bars
-}
-
-// A bar.
-fn bar_of(label: &'static str, number: u64, most: u64, class: &'static str) -> Bar {
-    Bar {
-        label,
-        number,
-        most,
-        class,
-    }
-}
-
-// The greatest of some numbers.
-fn greatest(numbers: &[u64]) -> u64 {
-    let mut most = 0;
-    for number in numbers {
-        most = most.max(*number);
-    }
-    most
 }

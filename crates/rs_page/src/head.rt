@@ -4,6 +4,7 @@ use crate::elements::close_section;
 use crate::shown::Shown;
 use rs_glass_shell::downs_text;
 use rs_host::Utc;
+use rs_notes::BEFORE_IMPORT;
 use rs_picture::{Grouped, add_text};
 use rs_update::Errors;
 use std::alloc::{AllocError, Global};
@@ -30,9 +31,18 @@ pub(crate) fn add_head(
         Errors::Rfc4271 => ". Faults in path attributes are handled by RFC 4271.</p>\n",
         Errors::Rfc7606 => ". Faults in path attributes are handled by RFC 7606.</p>\n",
     })?;
+    add_import(text, shown)?;
     add_downs(text, alloc, shown)?;
     text.push_str("</header>\n")?;
     add_notes(text, shown)
+}
+
+// Adds what that means for the page if no import policy is configured.
+fn add_import(text: &mut String, shown: &Shown<'_>) -> Result<(), AllocError> {
+    if shown.has_import() {
+        return Ok(());
+    }
+    writeln!(text, "<p>{BEFORE_IMPORT}.</p>")
 }
 
 // Adds which sessions are down.

@@ -4,8 +4,8 @@
 //!
 //! Reading order, what is shown first: `spans` (when a session was up), `changes` (how many changes came when), `times`
 //! (what recordings show of both), `members` (the numbers of each peer), `shown` (all of it). Then the parts of the
-//! page: `elements` (what they have in common), `bars`, `axis`, `style`; `head`, `matrix`, `cards`, `lanes`, `causes`,
-//! `histogram`. Last `answering` (the whole answer).
+//! page: `elements` (what they have in common), `bars`, `axis`, `style`; `head`, `matrix`, `cards`, `lanes`, `filters`,
+//! `causes`, `histogram`. Last `answering` (the whole answer).
 #![tactic(auto)]
 
 mod answering;
@@ -15,6 +15,7 @@ mod cards;
 mod causes;
 mod changes;
 mod elements;
+mod filters;
 mod head;
 mod histogram;
 mod lanes;

@@ -3,7 +3,10 @@
 ghost use Rattle.std.specs.Prelude.{◌<◌};
 
 use crate::bars::Bar;
+use crate::filters::filtered_of;
 use crate::times::Times;
+use rs_choice::Exchange;
+use rs_glass_shell::name_at;
 use rs_survey::{ConditionKind, Finding, Tally};
 use std::alloc::{AllocError, Global};
 
@@ -20,6 +23,8 @@ pub(crate) enum Measure {
     ServerAsNextHop,
     /// Its routes whose NEXT_HOP is off the subnet.
     NextHopOffSubnet,
+    /// Its eligible routes that import policy filters.
+    Filtered,
     /// Its routes that are refused, once for each client.
     Refused,
     /// Its routes that are candidates, once for each client.
@@ -39,6 +44,7 @@ impl Measure {
             Measure::OwnAs => "server AS",
             Measure::ServerAsNextHop => "server hop",
             Measure::NextHopOffSubnet => "off subnet",
+            Measure::Filtered => "filtered",
             Measure::Refused => "refused",
             Measure::Candidates => "candidates",
             Measure::Lost => "lost",
@@ -50,7 +56,10 @@ impl Measure {
     fn class(self) -> &'static str {
         match self {
             Measure::Announced | Measure::Left => "kb",
-            Measure::OwnAs | Measure::ServerAsNextHop | Measure::NextHopOffSubnet => "ko",
+            Measure::OwnAs
+            | Measure::ServerAsNextHop
+            | Measure::NextHopOffSubnet
+            | Measure::Filtered => "ko",
             Measure::Refused => "kr",
             Measure::Candidates | Measure::Lost | Measure::Best => "kg",
         }
@@ -65,6 +74,7 @@ pub(crate) struct Member {
     own_as: u64,
     server_as_next_hop: u64,
     next_hop_off_subnet: u64,
+    filtered: u64,
     refused: u64,
     lost: u64,
     best: u64,
@@ -77,6 +87,7 @@ const NOBODY: Member = Member {
     own_as: 0,
     server_as_next_hop: 0,
     next_hop_off_subnet: 0,
+    filtered: 0,
     refused: 0,
     lost: 0,
     best: 0,
@@ -91,6 +102,7 @@ impl Member {
             Measure::OwnAs => self.own_as,
             Measure::ServerAsNextHop => self.server_as_next_hop,
             Measure::NextHopOffSubnet => self.next_hop_off_subnet,
+            Measure::Filtered => self.filtered,
             Measure::Refused => self.refused,
             Measure::Candidates => self.lost.saturating_add(self.best),
             Measure::Lost => self.lost,
@@ -117,6 +129,11 @@ impl Member {
         Ok(bars)
     }
 
+    /// Whether import policy filters every route that the peer left.
+    pub(crate) fn is_all_filtered(&self) -> bool {
+        self.left > 0 && self.filtered == self.left
+    }
+
     // The numbers of this peer and of another one together.
     fn with(self, other: &Member) -> Member {
         Member {
@@ -129,6 +146,7 @@ impl Member {
             next_hop_off_subnet: self
                 .next_hop_off_subnet
                 .saturating_add(other.next_hop_off_subnet),
+            filtered: self.filtered.saturating_add(other.filtered),
             refused: self.refused.saturating_add(other.refused),
             lost: self.lost.saturating_add(other.lost),
             best: self.best.saturating_add(other.best),
@@ -166,6 +184,7 @@ fn member_of(tally: &Tally, peer: usize, announced: u64) -> Member
             peer,
             ConditionKind::NextHopOffExchange,
         )),
+        filtered: filtered_of(tally, peer),
         ..NOBODY
     };
     for client in 0..tally.peers() {
@@ -185,6 +204,21 @@ fn pair_of(tally: &Tally, client: usize, peer: usize) -> Member
         best: tally.count(Finding::Best(client, peer)),
         ..NOBODY
     }
+}
+
+/// The names of the peers of whose routes import policy filters every one.
+pub(crate) fn names_of_filtered<'a>(
+    alloc: Global,
+    plan: &'a Exchange,
+    members: &[Member],
+) -> Result<Vec<&'a str>, AllocError> {
+    let mut names = Vec::new(alloc);
+    for (peer, member) in members.iter().enumerate() {
+        if member.is_all_filtered() {
+            names.push(name_at(plan, peer))?;
+        }
+    }
+    Ok(names)
 }
 
 /// The numbers of all peers together.

@@ -19,10 +19,10 @@ pub enum Ended {
     /// The command line gives no options: help or the version was asked for, or it is refused.
     #[error(transparent)]
     Words(WordsFault),
-    /// The configuration is refused.
+    /// The configuration or one of its lists is refused.
     #[error(transparent)]
     Setup(SetupFault),
-    /// The configuration or a peer's recorded file can't be read: its path.
+    /// The configuration, one of its lists or a peer's recorded file can't be read: its path.
     #[error("the file {0} cannot be read whole")]
     Unread(String),
     /// Memory was refused while a file was read.

@@ -1,4 +1,5 @@
 pub mod FilesLemmas
+pub mod KnownLemmas
 pub mod NoneLemmas
 pub mod SetupLemmas
 pub mod SetupUnique

@@ -8,13 +8,19 @@ use Rattle.std.proofs.lemmas.List.{get_or-map, length-map}
 use Rattle.std.proofs.lemmas.List.Folds.{Any-from_list_any}
 use Rattle.std.proofs.lemmas.Option.{same_Some}
 use Rattle.std.proofs.lemmas.Slice.Eq.{bytes_eq-Decides}
-use Rattle.std.specs.List.{Contains, list_any, position_or_len, before_first, after_first}
+use Rattle.std.specs.List.{AllZip, Contains, list_any, position_or_len, before_first, after_first}
 use Rattle.std.specs.Prelude.{IfSome, MatchOption}
 use Rattle.std.specs.Str.{bytes_eq}
-use Rattle.toml.specs.Data.{Data, string, as_str, Items, no_items, item, push_item}
+use Rattle.toml.specs.Data.{Data, string, as_str, Items, no_items, item, push_item, Members}
 use Rattle.toml.specs.View.{items_of}
-use Rattle.rs_choice.specs.Plan.{Peer}
-use Rattle.rs_setup.specs.Setup.{ArePeers, IsPeer}
+use Rattle.std.specs.Prelude.{string_bytes}
+use Rattle.rs_choice.specs.Plan.{Peer, Plan, peer_of}
+use Rattle.rs_import.specs.Import.{no_import}
+use Rattle.rs_setup.specs.Import.{AreLists}
+use Rattle.rs_setup.specs.Peers.{IsAdded}
+use Rattle.rs_setup.specs.Setup.{ArePeers, IsPeer, IsSetup}
+use Rattle.rs_setup.specs.Values.{AreAll}
+use Rattle.rs_setup.specs.declared.peers.Peers.{Peers}
 
 -- a number of two digits is written by them
 pub decimal-two : (tens ones : ℕ) → 1 ≤ tens → tens < 10 → ones < 10 → decimal (10 * tens + ones) ≡ (48 + tens) ∷ (48 + ones) ∷ []
@@ -76,6 +82,22 @@ pub items_of-push : (texts : List (List ℕ)) (text : List ℕ)
 items_of-push [] text = refl
 items_of-push (first ∷ texts) text = ap (item (string first)) (items_of-push texts text)
 
+-- one more value of a list
+pub AreAll-push : {A : Type 0} (Is : Data → A → Type 0) (values : Items) (found : List A) (value : Data) (one : A)
+    → AreAll Is values found → Is value one → AreAll Is (push_item values value) (found ++ one ∷ [])
+AreAll-push Is no_items [] value one all is = (is, tt)
+AreAll-push Is no_items (x ∷ found) value one all is = absurd all
+AreAll-push Is (item first values) [] value one all is = absurd all
+AreAll-push Is (item first values) (x ∷ found) value one all is = (all.0, AreAll-push Is values found value one all.1 is)
+
+-- two lists with one more element each
+pub AllZip-push : {A B : Type 0} (R : A → B → Type 0) (xs : List A) (ys : List B) (x : A) (y : B) → AllZip R xs ys → R x y
+    → AllZip R (xs ++ x ∷ []) (ys ++ y ∷ [])
+AllZip-push R [] [] x y all one = (one, tt)
+AllZip-push R [] (b ∷ ys) x y all one = absurd all
+AllZip-push R (a ∷ xs) [] x y all one = absurd all
+AllZip-push R (a ∷ xs) (b ∷ ys) x y all one = (all.0, AllZip-push R xs ys x y all.1 one)
+
 -- one more peer of a list
 pub ArePeers-push : (values : Items) (peers : List Peer) (files : List (List ℕ)) (value : Data) (peer : Peer) (file : List ℕ)
     → ArePeers values peers files → IsPeer value peer file → ArePeers (push_item values value) (peers ++ peer ∷ []) (files ++ file ∷ [])
@@ -83,3 +105,22 @@ ArePeers-push no_items [] [] value peer file so_far is = (is, tt)
 ArePeers-push (item first values) (one ∷ peers) (path ∷ files) value peer file so_far is =
     (so_far.0, ArePeers-push values peers files value peer file so_far.1 is)
 ArePeers-push values peers files value peer file so_far is = absurd so_far
+
+-- one more peer that was added to those so far
+pub added : (values : Items) (before after : Peers) (value : Data)
+    → ArePeers values (map peer_of before.specs.items) (map string_bytes before.files.items)
+    × AreAll AreLists values before.lists.items
+    → IsAdded before after value
+    → ArePeers (push_item values value) (map peer_of after.specs.items) (map string_bytes after.files.items)
+    × AreAll AreLists (push_item values value) after.lists.items
+added values before after value (are, all) one =
+    rw (one.peers, one.files, one.all_lists) (
+      ArePeers-push values (map peer_of before.specs.items) (map string_bytes before.files.items) value one.peer one.file are one.is_peer,
+      AreAll-push AreLists values before.lists.items value one.lists all one.are_lists,
+    )
+
+-- a plan that is set up by a text alone asks nothing on import
+pub asks_nothing : {keys : Members} {files : List (List ℕ)} (plan : Plan) → IsSetup keys plan files
+    → IsSetup keys (record plan { import = no_import }) files
+asks_nothing plan set_up =
+    record { known = set_up.known; server = set_up.server; peers = set_up.peers; import = refl }

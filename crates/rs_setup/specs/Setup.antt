@@ -5,12 +5,15 @@ use Rattle.toml.specs.Data.{Data, table, array, Items, no_items, item, Members}
 use Rattle.rs_choice.specs.Import.{no_import}
 use Rattle.rs_choice.specs.Plan.{Peer, Plan}
 use Rattle.rs_choice.specs.declared.plan.Local.{Local}
+use Rattle.rs_setup.specs.Import.{IsImportSetup, paths_of}
+use Rattle.rs_setup.specs.Lists.{Holding, IsPolicy}
 use Rattle.rs_setup.specs.Values.{HasOnly, IsAddress, IsBoolean, IsSomeSubnet, IsText, IsTexts, IsWholeNumber}
 use Rattle.rs_setup.specs.Values.{MayHave, Needs}
+use Rattle.rs_setup.specs.declared.import_setup.ImportSetup.{ImportSetup}
 
 -- the keys of a configuration, of its server and of a peer
 abbrev pub top_keys : List (List ℕ)
-top_keys = codes "peer" ∷ codes "server" ∷ []
+top_keys = codes "import" ∷ codes "peer" ∷ codes "server" ∷ []
 
 abbrev pub server_keys : List (List ℕ)
 server_keys =
@@ -18,8 +21,8 @@ server_keys =
 
 abbrev pub peer_keys : List (List ℕ)
 peer_keys =
-    codes "address" ∷ codes "as" ∷ codes "file" ∷ codes "id" ∷ codes "name" ∷ codes "preference"
-    ∷ codes "refuse_from" ∷ []
+    codes "address" ∷ codes "as" ∷ codes "as_list" ∷ codes "file" ∷ codes "id" ∷ codes "import" ∷ codes "name"
+    ∷ codes "preference" ∷ codes "prefix_list" ∷ codes "refuse_from" ∷ []
 
 -- the preference of a peer if none is configured
 abbrev pub default_preference : ℕ
@@ -73,3 +76,14 @@ pub record IsSetup (keys : Members) (plan : Plan) (files : List (List ℕ)) : Ty
   pub server : Needs keys (codes "server") IsServer (plan.local, plan.large_communities)
   pub peers : MayHave keys (codes "peer") ArePeersOf ([], []) (plan.peers, files)
   pub import : plan.import ≡ no_import
+
+-- These are the paths of the lists of a configuration.
+abbrev pub AreListPaths : Members → List (List ℕ) → Type 0
+AreListPaths keys paths = (import : ImportSetup) × IsImportSetup keys import × (paths ≡ paths_of import)
+
+-- What the table of a configuration sets up with its lists: the same, but for import policy, which is that of the
+-- configuration. The relation tells which octets the file at a path has.
+abbrev pub IsWholeSetup : Holding → Members → Plan → List (List ℕ) → Type 0
+IsWholeSetup Holds keys plan files =
+    IsSetup keys (record plan { import = no_import }) files
+    × ((import : ImportSetup) × IsImportSetup keys import × IsPolicy Holds import plan.import)

@@ -1,13 +1,14 @@
 -- The meaning of the values of a configuration, and the keys that its tables have (our choice: RFC 4271 leaves
 -- configuration to the implementation).
-use Rattle.std.specs.Prelude.{◌≡◌, ℕ, ◌<◌, ◌≤◌, ◌^◌, pos, Bool, List, ◌++◌, map, codes, decimal, Option, IsSomeAnd}
+use Rattle.std.specs.Prelude.{◌≡◌, ℕ, ◌<◌, ◌≤◌, ◌^◌, pos, Bool, List, [], ◌∷◌, ◌++◌, map, codes, decimal, Option, IsSomeAnd}
 use Rattle.std.specs.Prelude.{MatchOption, All, ◌≢◌}
 use Rattle.std.specs.Int.{w32, from_be_bytes}
 use Rattle.std.specs.List.{Contains}
 use Rattle.std.specs.Net.Grammar.{IsDotted}
 use Rattle.rs_update.specs.IpPrefix.{IpPrefix}
 use Rattle.rs_update.specs.Prefix.{network_of}
-use Rattle.toml.specs.Data.{Data, integer, string, boolean, array, Items, Members, no_members, member, get_member}
+use Rattle.toml.specs.Data.{Data, integer, string, boolean, array, Items, no_items, item, Members, no_members, member}
+use Rattle.toml.specs.Data.{get_member}
 use Rattle.toml.specs.View.{items_of}
 
 -- a value or a text has no meaning of this sort
@@ -17,6 +18,10 @@ StandsForNone {V} {A} StandsFor value = (found : A) → ¬ (StandsFor value foun
 -- a whole number of 32 bits
 abbrev pub IsWholeNumber : Data → ℕ → Type 0
 IsWholeNumber value number = (value ≡ integer (pos number)) × (number < 2 ^ 32)
+
+-- a whole number, or none
+abbrev pub IsSomeNumber : Data → Option ℕ → Type 0
+IsSomeNumber value number = IsSomeAnd number (IsWholeNumber value)
 
 -- a Boolean: `true` or `false`
 abbrev pub IsBoolean : Data → Bool → Type 0
@@ -54,6 +59,10 @@ IsSomeSubnet value subnet = IsSomeAnd subnet (IsSubnet value)
 abbrev pub IsText : Data → List ℕ → Type 0
 IsText value text = value ≡ string text
 
+-- a text, or none
+abbrev pub IsSomeText : Data → Option (List ℕ) → Type 0
+IsSomeText value text = IsSomeAnd text (IsText value)
+
 -- items that are texts
 abbrev pub AreTexts : Items → List (List ℕ) → Type 0
 AreTexts items texts = items ≡ items_of (map string texts)
@@ -70,6 +79,16 @@ Needs members key StandsFor found = IsSomeAnd (get_member key members) (λ value
 abbrev pub MayHave : {A : Type 0} → Members → List ℕ → (Data → A → Type 0) → A → A → Type 0
 MayHave members key StandsFor default found =
     MatchOption (get_member key members) (found ≡ default) (λ value. StandsFor value found)
+
+-- there are as many values as items, each from the item at its place
+abbrev pub AreAll : {A : Type 0} → (Data → A → Type 0) → Items → List A → Type 0
+AreAll Is no_items [] = Unit {0}
+AreAll Is (item value values) (found ∷ others) = Is value found × AreAll Is values others
+AreAll Is _ _ = ⊥
+
+-- a list of such values
+abbrev pub AreListed : {A : Type 0} → (Data → A → Type 0) → Data → List A → Type 0
+AreListed Is value found = (values : Items) × (value ≡ array values) × AreAll Is values found
 
 -- each key of a table is a known one
 abbrev pub HasOnly : List (List ℕ) → Members → Type 0

@@ -1,10 +1,11 @@
 //! The keys of a configuration's tables: which there are, which must be there, and how a fault names them.
 
 ghost use Rattle.std.specs.Prelude.{◌≡◌, IfOk, None, Some, [], map, option_map, string_bytes};
+ghost use Rattle.std.specs.Option.{is_some};
 ghost use Rattle.toml.specs.Data.{get_member};
 ghost use Rattle.toml.specs.View.{table_view, view};
-ghost use Rattle.rs_setup.specs.Values.{HasOnly, IsAddress, IsBoolean, IsSomeSubnet, IsText, IsTexts, IsWholeNumber};
-ghost use Rattle.rs_setup.specs.Values.{MayHave, Needs};
+ghost use Rattle.rs_setup.specs.Values.{HasOnly, IsAddress, IsBoolean, IsSomeNumber, IsSomeSubnet, IsSomeText, IsText};
+ghost use Rattle.rs_setup.specs.Values.{IsTexts, IsWholeNumber, MayHave, Needs};
 
 use crate::setup::SetupFault;
 use crate::values::{address, subnet, texts, whole_number};
@@ -21,6 +22,10 @@ pub enum Place {
     Server,
     /// It is that of the peer of this number.
     Peer(usize),
+    /// It is that of import policy.
+    Import,
+    /// It has the bounds of prefix lengths in import policy.
+    PrefixLength,
 }
 
 impl Place {
@@ -30,6 +35,8 @@ impl Place {
             Place::Top => String::from_str(alloc, key),
             Place::Server => format!(in alloc; "server.{key}"),
             Place::Peer(number) => format!(in alloc; "peer[{number}].{key}"),
+            Place::Import => format!(in alloc; "import.{key}"),
+            Place::PrefixLength => format!(in alloc; "import.prefix_length.{key}"),
         }
     }
 }
@@ -75,6 +82,13 @@ impl<'a> Section<'a> {
         self.table.get(key)
     }
 
+    /// Whether a key is there.
+    pub fn has(&self, key: &str) -> bool
+        ensures { result ≡ is_some (get_member key.now (members_in self.now)) }
+    {
+        self.get(key).is_some()
+    }
+
     /// The value at a key that must be there.
     pub fn needs(&self, alloc: Global, key: &str) -> Result<&'a Value, SetupFault>
         ensures { IfOk result (λ value. get_member key.now (members_in self.now) ≡ Some (view value.now)) }
@@ -109,6 +123,16 @@ impl<'a> Section<'a> {
         match self.get(key) {
             Some(value) => self.valid(alloc, key, whole_number(value)),
             None => Ok(default),
+        }
+    }
+
+    /// The whole number at a key that may be there.
+    pub fn some_whole_number(&self, alloc: Global, key: &str) -> Result<Option<u32>, SetupFault>
+        ensures { IfOk result (MayHave (members_in self.now) key.now IsSomeNumber None) }
+    {
+        match self.get(key) {
+            Some(value) => self.valid(alloc, key, whole_number(value)).map(Some),
+            None => Ok(None),
         }
     }
 
@@ -155,6 +179,20 @@ impl<'a> Section<'a> {
     {
         let found = self.valid(alloc, key, self.needs(alloc, key)?.as_str())?;
         Ok(String::from_str(alloc, found)?)
+    }
+
+    /// The text at a key that may be there.
+    pub fn some_text(&self, alloc: Global, key: &str) -> Result<Option<String>, SetupFault>
+        ensures { IfOk result (λ text. MayHave (members_in self.now) key.now IsSomeText None
+            (option_map string_bytes text)) }
+    {
+        match self.get(key) {
+            Some(value) => {
+                let found = self.valid(alloc, key, value.as_str())?;
+                Ok(Some(String::from_str(alloc, found)?))
+            }
+            None => Ok(None),
+        }
     }
 
     /// The texts of the list at a key, none if the key isn't there.

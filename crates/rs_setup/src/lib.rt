@@ -1,18 +1,26 @@
-//! What the configuration of an exchange sets up: the server, its peers, and the path of each peer's recorded file.
+//! What the configuration of an exchange sets up: the server, its peers, the path of each peer's recorded file, and
+//! import policy.
 //!
 //! Reading order: `setup` (what is set up, and why a configuration is refused), `peers` (the server's table
-//! and those of the peers), `keys` (a table's keys), `values`, `laws`. A configuration is a TOML table (our
-//! choice: RFC 4271 leaves configuration to the implementation).
+//! and those of the peers), `import_setup` (what it says of import policy) and `entries` (the lists in it), `keys` (a
+//! table's keys), `values`. Then `list_files` (where the lists of import policy are read from) and `lists` (import
+//! policy by what they say), `laws`. A configuration is a TOML table (our choice: RFC 4271 leaves configuration to the
+//! implementation).
 //!
 //! A call that allocates fails if memory is refused.
 #![tactic(auto)]
 
+mod entries;
+mod import_setup;
 mod keys;
 mod laws;
+mod list_files;
+mod lists;
 mod peers;
 mod setup;
 mod values;
 
 pub use laws::{a_configuration_has_a_file_for_each_peer, a_configuration_sets_up_one_exchange};
-pub use setup::{Setup, SetupFault, read_setup};
+pub use list_files::ListFiles;
+pub use setup::{NoSetup, Setup, SetupFault, read_setup, read_whole_setup};
 pub use values::slashed_subnet;

@@ -1,13 +1,16 @@
 //! The server and the peers of a configuration (our choice: RFC 4271 leaves configuration to the implementation).
 
-ghost use Rattle.std.specs.Prelude.{◌≡◌, IfOk, [], codes, map, string_bytes};
+ghost use Rattle.std.specs.Prelude.{◌≡◌, IfOk, OnOk, [], codes, map, string_bytes};
 ghost use Rattle.rs_choice.specs.Plan.{peer_of};
 ghost use Rattle.toml.specs.Data.{table};
 ghost use Rattle.toml.specs.View.{items_view, table_view, view};
+ghost use Rattle.rs_setup.specs.Import.{AreLists};
 ghost use Rattle.rs_setup.specs.Section.{members_in};
-ghost use Rattle.rs_setup.specs.Setup.{ArePeers, ArePeersOf, IsPeer, IsServer};
-ghost use Rattle.rs_setup.specs.Values.{MayHave, Needs};
+ghost use Rattle.rs_setup.specs.Peers.{IsAdded};
+ghost use Rattle.rs_setup.specs.Setup.{ArePeers, ArePeersOf, IsPeerOf, IsServer};
+ghost use Rattle.rs_setup.specs.Values.{AreAll, AreListed, MayHave, Needs};
 
+use crate::import_setup::{PeerLists, read_lists};
 use crate::keys::{Place, Section};
 use crate::setup::SetupFault;
 use rs_choice::{Local, PeerSpec};
@@ -50,46 +53,90 @@ pub fn read_server(alloc: Global, top: &Section) -> Result<(Local, bool), SetupF
     Ok((local, large_communities))
 }
 
-/// Reads the peers and the paths of their files, in order, out of the configuration's table.
-pub fn read_peers(alloc: Global, top: &Section) -> Result<(Vec<PeerSpec>, Vec<String>), SetupFault>
-    ensures { IfOk result (λ (peers, files). MayHave (members_in top.now) (codes "peer") ArePeersOf ([], [])
-        (map peer_of peers.items, map string_bytes files.items)) }
+/// The peers of a configuration, in its order.
+#[derive(Drop)]
+pub struct Peers {
+    /// The peers as the plan has them.
+    pub specs: Vec<PeerSpec>,
+    /// The path of each peer's recorded file.
+    pub files: Vec<String>,
+    /// The lists of each peer.
+    pub lists: Vec<PeerLists>,
+}
+
+/// Reads the peers, with the paths of their files and their lists, in order, out of the configuration's table.
+pub fn read_peers(alloc: Global, top: &Section) -> Result<Peers, SetupFault>
+    ensures peers { IfOk result (λ found. MayHave (members_in top.now) (codes "peer") ArePeersOf ([], [])
+        (map peer_of found.specs.items, map string_bytes found.files.items)) }
+    ensures lists { IfOk result (λ found. MayHave (members_in top.now) (codes "peer") (AreListed AreLists) []
+        found.lists.items) }
 {
     match top.get("peer") {
         Some(value) => read_list(alloc, top.valid(alloc, "peer", value.as_array())?),
-        None => Ok((Vec::new(alloc), Vec::new(alloc))),
+        None => Ok(no_peers(alloc)),
+    }
+}
+
+// No peer.
+fn no_peers(alloc: Global) -> Peers
+    ensures specs { result.specs.items ≡ [] }
+    ensures files { result.files.items ≡ [] }
+    ensures lists { result.lists.items ≡ [] }
+{
+    Peers {
+        specs: Vec::new(alloc),
+        files: Vec::new(alloc),
+        lists: Vec::new(alloc),
     }
 }
 
 // Reads the peers of a list.
-fn read_list(alloc: Global, values: &[Value]) -> Result<(Vec<PeerSpec>, Vec<String>), SetupFault>
-    ensures { IfOk result (λ (peers, files). ArePeers (items_view values.now) (map peer_of peers.items)
-        (map string_bytes files.items)) }
+fn read_list(alloc: Global, values: &[Value]) -> Result<Peers, SetupFault>
+    ensures peers { IfOk result (λ found. ArePeers (items_view values.now) (map peer_of found.specs.items)
+        (map string_bytes found.files.items)) }
+    ensures lists { IfOk result (λ found. AreAll AreLists (items_view values.now) found.lists.items) }
 {
-    let mut peers = Vec::new(alloc);
-    let mut files = Vec::new(alloc);
+    let mut peers = no_peers(alloc);
     for (number, value) in values.iter().enumerate() {
-        let (peer, file) = read_peer(alloc, number, value)?;
-        peers.push(peer)?;
-        files.push(file)?;
+        add_peer(alloc, &mut peers, number, value)?;
     }
-    Ok((peers, files))
+    Ok(peers)
 }
 
-// Reads the peer of this number and the path of its file.
-fn read_peer(alloc: Global, number: usize, value: &Value) -> Result<(PeerSpec, String), SetupFault>
-    ensures { IfOk result (λ (peer, file). IsPeer (view value.now) (peer_of peer) (string_bytes file)) }
+// Reads the peer of this number, and adds it to those before it.
+fn add_peer(
+    alloc: Global,
+    peers: &mut Peers,
+    number: usize,
+    value: &Value,
+) -> Result<(), SetupFault>
+    ensures { OnOk result (IsAdded peers.old peers.new (view value.now)) }
 {
     let peer = Section::new(Place::Peer(number), peer_table(alloc, number, value)?);
+    let (spec, file) = read_peer(alloc, &peer)?;
+    let lists = read_lists(alloc, &peer)?;
+    peers.specs.push(spec)?;
+    peers.files.push(file)?;
+    peers.lists.push(lists)?;
+    Ok(())
+}
+
+// Reads a peer and the path of its file out of its table.
+fn read_peer(alloc: Global, peer: &Section) -> Result<(PeerSpec, String), SetupFault>
+    ensures { IfOk result (λ (spec, file). IsPeerOf (members_in peer.now) (peer_of spec) (string_bytes file)) }
+{
     peer.has_only(
         alloc,
         &[
             "address",
             "as",
+            "as_list",
             "file",
             "id",
+            "import",
             "name",
             "preference",
+            "prefix_list",
             "refuse_from",
         ],
     )?;

@@ -3,6 +3,7 @@
 
 ghost use Rattle.std.specs.Prelude.{◌≡◌, ◌++◌, ◌<◌, ℕ, IfNone, IfOk, IfSome, codes, decimal, map, string_bytes};
 ghost use Rattle.toml.specs.View.{items_view, view};
+ghost use Rattle.rs_setup.specs.Import.{IsLength};
 ghost use Rattle.rs_setup.specs.Values.{AreTexts, HasNoSlash, IsAddress, IsDottedAddress, IsSlashedSubnet, IsSubnet};
 ghost use Rattle.rs_setup.specs.Values.{IsTexts, IsWholeNumber, StandsForNone};
 
@@ -19,6 +20,16 @@ pub fn whole_number(value: &Value) -> Option<u32>
     match value.as_integer() {
         Some(number) => u32::try_from(number).ok(),
         None => None,
+    }
+}
+
+/// The length, from 0 to 32, that a value is.
+pub fn length(value: &Value) -> Option<u8>
+    ensures { IfSome result (IsLength (view value.now)) }
+{
+    match whole_number(value) {
+        Some(len @ 0..=32) => Some(len as u8),
+        _ => None,
     }
 }
 

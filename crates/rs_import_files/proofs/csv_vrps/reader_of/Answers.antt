@@ -1,4 +1,6 @@
 use Rattle.std.proofs.Common.{◌∙◌, ap, inr, refl, sym}
+use Rattle.std.proofs.lemmas.List.Elements.{All-nil}
+use Rattle.csv.specs.Records.{AllText}
 use Rattle.csv.specs.Reading.{Reached, builder_config, builder_names_headers, builder_trim, strip_bom}
 use Rattle.rs_import_files.proofs.csv_vrps.reader_of.Goals as goal
 
@@ -14,4 +16,5 @@ returns c =
       strip_bom c.args.octets.now,
       fr.source,
       (sym fr.state, refl),
+      All-nil AllText,
     )

@@ -1,12 +1,13 @@
 use Rattle.json.specs.Value.{value_view}
 use Rattle.rs_import_files.specs.JsonRows.{IsVrpRow, counts}
-use Rattle.rs_import_files.proofs.RowLemmas.{row_kept, row_passed}
+use Rattle.rs_import_files.proofs.ErrLemmas.{err_any}
+use Rattle.rs_import_files.proofs.RowLemmas.{row_kept, row_none, row_passed}
 use Rattle.rs_import_files.proofs.json_lists.vrps_of.Goals as goal
 use Rattle.rs_import_files.proofs.json_lists.vrps_of.Goals.{in-Some+in_ok-push, in_default}
 
 pub loop-index-preserved : goal.loop-index-preserved
 loop-index-preserved c =
-    let read = rw c.in_ok-vrp.ensures at c.vrp_of.ensures in
+    let read = rw c.in_ok-vrp.ensures.found at c.vrp_of.ensures.found in
     elim c.match-branch-2.branch [
       | in-Some+in_ok-push w ↦
           let vrp = rw w.in-Some.is at read in
@@ -18,3 +19,11 @@ loop-index-preserved c =
           (row_passed value_view IsVrpRow counts c.args.rows.now c.loop-index.index c.index-rows-index.result c.loop-index.vrps.items
           c.loop-index-test.true c.index-rows-index.is (rw w.in_default.is at read) c.loop-index.invariant)
     ]
+
+pub returns-in_err-vrp-clause-refused : goal.returns-in_err-vrp-clause-refused
+returns-in_err-vrp-clause-refused c =
+    let (flaw, is) = c.in_err-vrp.ensures.wrong in
+    let none = rw is at c.vrp_of.ensures.none in
+    err_any c.from_residual.result (λ fault of_file.
+    row_none value_view IsVrpRow counts c.args.rows.now c.loop-index.index c.index-rows-index.result c.loop-index-test.true c.index-rows-index.is
+    none.0 none.1)

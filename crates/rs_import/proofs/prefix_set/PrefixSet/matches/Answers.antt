@@ -5,4 +5,4 @@ use Rattle.rs_import.proofs.SearchLemmas.{any-find}
 use Rattle.rs_import.proofs.prefix_set.PrefixSet.matches.Goals as goal
 
 pub returns : goal.returns
-returns c = c.is_some.ensures ∙ (ap is_some c.matching.ensures ∙ sym (any-find (is_match c.args.prefix) c.args.self.now))
+returns c = c.is_some.ensures ∙ (ap is_some c.matching.ensures.found ∙ sym (any-find (is_match c.args.prefix) c.args.self.now))

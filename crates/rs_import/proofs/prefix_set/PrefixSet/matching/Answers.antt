@@ -1,11 +1,13 @@
 use Rattle.std.proofs.Common.{arith, ◌≡◌, ◌∙◌, sym, subst, List, length, ◌-◌}
 use Rattle.std.specs.Prelude.{slice_index_or}
+use Rattle.std.specs.List.Sorted.{IsNonDecreasingBy}
 use Rattle.rs_types.specs.Covering.{covers}
 use Rattle.rs_import.specs.declared.pattern.Pattern.{Pattern}
-use Rattle.rs_import.specs.Nesting.{IsLastCover}
+use Rattle.rs_import.specs.Nesting.{IsLastCover, rank_of}
 use Rattle.rs_import.specs.Patterns.{is_match}
-use Rattle.rs_import.proofs.SearchLemmas.{find-start, find-step}
+use Rattle.rs_import.proofs.SearchLemmas.{find-start, find-step, found-first}
 use Rattle.rs_import.proofs.SetLemmas.{match-covers, no_pattern}
+use Rattle.rs_import.proofs.SpecificLemmas.{most_specific}
 use Rattle.rs_import.proofs.prefix_set.PrefixSet.matching.Goals as goal
 
 pub loop-count-init : goal.loop-count-init
@@ -35,3 +37,16 @@ loop-count-preserved c =
           ∙ c.loop-count.invariant.1,
       last.1,
     )
+
+pub returns-then-is_match-clause-specific : goal.returns-then-is_match-clause-specific
+returns-then-is_match-clause-specific c =
+    let patterns = c.args.self.now in
+    let q = c.args.prefix in
+    let count = c.loop-count.count in
+    let x = c.pattern-pattern.result in
+    let at = subst (λ (l : List Pattern). x ≡ slice_index_or l (count - 1) x) c.self.view_is c.pattern-pattern.ensures in
+    let rising = subst (λ (l : List Pattern). IsNonDecreasingBy (λ (pattern : Pattern). rank_of pattern.prefix) l) c.self.view_is c.self.invariant in
+    let passes = sym c.is_match.ensures ∙ c.if-is_match.true in
+    most_specific patterns q x rising passes
+    (sym c.loop-count.invariant.1
+    ∙ found-first (is_match q) patterns count x c.loop-count-test.true c.loop-count.invariant.0 at passes)

@@ -1,0 +1,15 @@
+use Rattle.std.proofs.Common.{sym, subst, List, rules}
+use Rattle.std.proofs.lemmas.List.Sorted.{IsNonDecreasingBy-from_sort_by_key, list_any-IsPermutation}
+use Rattle.rs_import.specs.declared.as_range.AsRange.{AsRange}
+use Rattle.rs_import.specs.AsRanges.{is_in_range}
+use Rattle.rs_import.specs.Reaches.{AreReaches}
+use Rattle.rs_import.proofs.as_set.AsSet.new.Goals as goal
+
+pub invariant_of-result : goal.invariant_of-result
+invariant_of-result c = (
+  IsNonDecreasingBy-from_sort_by_key (λ (range : AsRange). range.first) _ c.in_ok-sort_by_key.ensures.sorted (λ a r q k. search rules),
+  subst (λ (l : List AsRange). AreReaches l c.in_ok-reaches.reaches.items) c.deref.ensures.value c.in_ok-reaches.ensures,
+)
+
+pub returns-clause-same : goal.returns-clause-same
+returns-clause-same c = λ asn. sym (list_any-IsPermutation (is_in_range asn) _ _ c.in_ok-sort_by_key.ensures.permutation)

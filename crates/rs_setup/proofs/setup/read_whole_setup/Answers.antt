@@ -1,0 +1,18 @@
+use Rattle.rs_setup.proofs.SetupLemmas.{asks_nothing}
+use Rattle.rs_setup.proofs.setup.read_whole_setup.Goals as goal
+
+pub returns-clause-setup : goal.returns-clause-setup
+returns-clause-setup g c =
+    let (table, is, set_up, import) = c.in_ok-parts.ensures in (
+      table,
+      is,
+      (
+        rw (c.in_ok-plan.ensures.ok, c.with_import.ensures) (asks_nothing c.in_ok-parts.parts.exchange set_up),
+        (c.in_ok-parts.parts.import, import, rw (c.in_ok-plan.ensures.ok, c.with_import.ensures) c.in_ok-policy.ensures),
+      ),
+    )
+
+pub returns-clause-lists : goal.returns-clause-lists
+returns-clause-lists g c =
+    let (table, is, set_up, import) = c.in_ok-parts.ensures in
+    (table, is, (c.in_ok-parts.parts.import, import, c.in_ok-lists.ensures))
