@@ -58,8 +58,8 @@ fn single(value: &Value) -> Option<AsRange>
     })
 }
 
-/// The entries of the list that a value is; none if it is no list, if a value in it stands for no entry, or if it has
-/// more entries than a set has room for.
+/// The entries of the list that a value is. There are none if it is no list, or if a value in it stands for no entry.
+/// There are none either if it has more entries than a set has room for.
 pub fn entries<E: Entry + Drop>(alloc: Global, value: &Value) -> Result<Option<Vec<E>>, AllocError>
     ensures found { IfOk result (λ found. IfSome found (λ entries. AreListed E.is (view value.now) entries.items)) }
     ensures room { IfOk result (λ found. IfSome found (λ entries. length entries.items ≤ 2 ^ 32 - 1)) }

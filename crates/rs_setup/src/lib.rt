@@ -2,9 +2,9 @@
 //! import policy.
 //!
 //! Reading order: `setup` (what is set up, and why a configuration is refused), `peers` (the server's table
-//! and those of the peers), `import_setup` (what it says of import policy) and `entries` (the lists in it), `keys` (a
-//! table's keys), `values`. Then `list_files` (where the lists of import policy are read from) and `lists` (import
-//! policy by what they say), `laws`. A configuration is a TOML table (our choice: RFC 4271 leaves configuration to the
+//! and those of the peers), `keys` (a table's keys), `values`. Import policy: `import_setup` (what a configuration says
+//! of it), `entries` (the lists in it), `list_files` (where its other lists are read from), `lists` (the policy by what
+//! these say). Then `laws`. A configuration is a TOML table (our choice: RFC 4271 leaves configuration to the
 //! implementation).
 //!
 //! A call that allocates fails if memory is refused.
