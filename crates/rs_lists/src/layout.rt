@@ -14,11 +14,6 @@ pub(crate) const ANSWER_WIDTH: usize = 12;
 // The column of reasons by their keys.
 pub(crate) const REASON_WIDTH: usize = 28;
 
-// Whether an exchange has an import policy.
-pub(crate) fn has_import_policy(plan: &Exchange) -> bool {
-    plan.import().peer(0).is_some()
-}
-
 // The column of the validity by RPKI, which CSV alone has, where an exchange has VRPs.
 pub(crate) fn rpki_column(plan: &Exchange) -> Column {
     let has_vrps = plan.import().rules().vrps.is_some();

@@ -2,7 +2,7 @@
 
 ghost use Rattle.std.specs.Prelude.{◌<◌};
 
-use crate::layout::{AS_WIDTH, REASON_WIDTH, has_import_policy, shown_if};
+use crate::layout::{AS_WIDTH, REASON_WIDTH, shown_if};
 use crate::summary_numbers::{at_all_clients, filtered, of_pair, of_peer};
 use rs_choice::{Exchange, Step};
 use rs_glass_shell::{hand_peer, name_at, name_width, reason_key, step_key};
@@ -17,7 +17,8 @@ pub(crate) const NUMBER_WIDTH: usize = 11;
 
 // The columns. In text they are those of the table of peers.
 pub(crate) fn summary_columns(plan: &Exchange) -> [Column; 15] {
-    let (names, filters) = (name_width(plan, "peer"), has_import_policy(plan));
+    let names = name_width(plan, "peer");
+    let filters = plan.import().is_configured();
     [
         Column::of_csv("kind"),
         Column::of_csv("client"),
@@ -46,7 +47,7 @@ pub(crate) fn hand_sender(rows: &mut RowWriter<'_>, plan: &Exchange, tally: &Tal
     for (key, number) in of_peer(tally, peer) {
         rows.number(key, number);
     }
-    if has_import_policy(plan) {
+    if plan.import().is_configured() {
         rows.number(FILTERED, filtered(tally, peer));
     }
     for (key, number) in at_all_clients(tally, peer) {

@@ -2,7 +2,6 @@
 
 ghost use Rattle.std.specs.Prelude.{◌<◌};
 
-use crate::layout::has_import_policy;
 use crate::summary_row::{
     NUMBER_WIDTH, filter_columns, hand_filters, hand_hidden, hand_pair, hand_sender, hand_step,
     summary_columns,
@@ -74,7 +73,7 @@ fn tables_text(
     peers: &str,
 ) -> Result<String, AllocError> {
     let hidden = tally.count(Finding::Hidden);
-    let (unfit, filters) = if has_import_policy(plan) {
+    let (unfit, filters) = if plan.import().is_configured() {
         ("ineligible and filtered", filters_text(alloc, plan, tally)?)
     } else {
         ("ineligible", String::new(alloc))
