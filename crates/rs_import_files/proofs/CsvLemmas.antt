@@ -4,7 +4,7 @@ use Rattle.std.proofs.lemmas.List.Elements.{All-head, All-push, All-tail}
 use Rattle.std.proofs.lemmas.Option.{same_Some}
 use Rattle.std.specs.List.{All, AllZip, filter}
 use Rattle.csv.specs.Machine.{Read, next_record}
-use Rattle.csv.specs.Reading.{AreRecords, ExplainsRead, NextIs, Reached, ReadRecord, Ready, ReadsNext, TookRecord, default_config, source_of, pending_of, took_first}
+use Rattle.csv.specs.Reading.{AreRecords, ExplainsRead, NextIs, Reached, ReadRecord, Ready, ReadsNext, TookRecord, default_config, pending_of, took_first}
 use Rattle.csv.specs.Records.{AllText}
 use Rattle.csv.specs.declared.error.ErrorKind.{ErrorKind}
 use Rattle.csv.specs.declared.error.ErrorKind.TheVariants as kind

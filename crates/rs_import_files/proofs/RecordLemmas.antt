@@ -1,9 +1,9 @@
 -- Records and rows that stand for nothing: one part of them that is wrong is enough.
-use Rattle.std.proofs.Common.{◌≡◌, ◌≤◌, ◌∙◌, ℕ, Bool, true, false, List, Option, None, Some, codes, subst, sym, ap, refl, arith}
+use Rattle.std.proofs.Common.{◌≡◌, ◌≤◌, ◌∙◌, ℕ, List, Option, None, Some, codes, subst, sym, arith}
 use Rattle.std.specs.Prelude.{IsSomeAnd, if◌then◌else◌}
 use Rattle.csv.specs.Records.{field_at}
 use Rattle.json.specs.Find.{get}
-use Rattle.json.specs.Json.{Json, boolean, number}
+use Rattle.json.specs.Json.{Json, number}
 use Rattle.rs_types.specs.IpPrefix.{IpPrefix}
 use Rattle.rs_import.specs.declared.pattern.Pattern.{Pattern}
 use Rattle.rs_import_files.specs.Csv.{IsVrpRecord}

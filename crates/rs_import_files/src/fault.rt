@@ -9,10 +9,11 @@ use thiserror::Error;
 /// Why a list or a VRP file is refused: where, and the reason.
 #[derive(Debug, Drop, Error)]
 pub enum ListFault {
-    /// A line of a text or of a CSV file is wrong. Lines are counted from 1.
+    /// A line of a text or of a CSV file is wrong, its octets are no UTF-8, or a JSON file is no JSON from there on.
+    /// Lines are counted from 1.
     #[error("line {0}: {1}")]
     Line(usize, String),
-    /// A row of a JSON file is wrong. Rows are counted from 1.
+    /// A row of a JSON file is wrong. Rows are counted from 1, over all lists of the file.
     #[error("row {0}: {1}")]
     Row(usize, String),
     /// The file as a whole is wrong.

@@ -25,9 +25,10 @@ pub fn read_pattern(text: &str) -> Option<Pattern>
 fn with_more_specific(prefix: Prefix) -> Pattern
     ensures { result ≡ record { prefix = prefix; least = prefix.len; most = 32 } }
 {
+    let least = prefix.len();
     Pattern {
         prefix,
-        least: prefix.len(),
+        least,
         most: 32,
     }
 }
