@@ -69,7 +69,7 @@ class Bench:
         told, strict = ran.stderr.decode(errors="replace"), "--strict-after" in words
         reasons = [line for line in told.splitlines() if not re.search(NO_REASON, line)]
         clean = not strict or not reasons and all(line.endswith(" close end") for line in report.splitlines() if line.startswith("peer "))
-        wrong = wrong_notes(server, peers, report, files, told, strict, errors)
+        wrong = wrong_notes(server, peers, report, files, told, strict)
         if ran.returncode != (0 if clean else 5) or wrong:
             return f"status {ran.returncode}: {told}"
         if ran.stdout.decode() != report:
@@ -87,7 +87,7 @@ DOUBTS = r"(\S+ is empty|their files are empty|a loss at .*|losses are recorded 
 NO_REASON = r"note: peers? [\w, ]+: large communities 64500:\*:\* have no effect "
 
 
-def wrong_notes(server, peers, report, files, told, strict, errors):
+def wrong_notes(server, peers, report, files, told, strict):
     """The lines that may not be told, and those that must be: a run notes nothing but peers whose files gave only the close, files in which the session of a peer
     closed within a record that the end of the file cuts short, and, if it is strict, what `session_notes`, `server_note` and `import_notes` say."""
     silent = set(re.findall(r"^peer (\S+) changes 1 ", report, re.M))
@@ -96,7 +96,7 @@ def wrong_notes(server, peers, report, files, told, strict, errors):
     must = session_notes(peers, ends, files) + server_note(server, files) if strict else []
     lines = told.splitlines()
     wrong = [line for line in must if lines.count(line) != 1]
-    for form in import_notes(server, peers, files, errors) if strict else []:
+    for form in import_notes(server, peers) if strict else []:
         said = [line for line in lines if re.fullmatch(form, line)]
         wrong += [form] * (len(said) != 1)
         lines = [line for line in lines if line not in said]
@@ -155,12 +155,10 @@ def names_text(names):
     return " and ".join(filter(None, [", ".join(names[:-1]), names[-1]]))
 
 
-def import_notes(server, peers, files, errors):
-    """The forms of the notes on peers of whose routes every one is filtered, and on lists and VRP files without an entry. They name the first file."""
-    names = [peer.name for peer in slow_reading.filtered_peers(server, peers, [octets for _, octets in files], errors)]
-    empty = list(dict.fromkeys(file.name for file in slow_reading.empty_lists(server, peers)))
-    forms = [f"route_server: note: peers? {names_text(names)}: .* filtered.*"] if names else []
-    return forms + ([rf"route_server: note: {re.escape(empty[0])} .*no entr.*"] if empty else [])
+def import_notes(server, peers):
+    """The form of the note on lists and VRP files without an entry. It names the first file."""
+    empty = [file.name for file in slow_reading.empty_lists(server, peers)]
+    return [rf"route_server: note: {re.escape(empty[0])} .*no entr.*"] if empty else []
 
 
 def server_note(server, files):

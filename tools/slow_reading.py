@@ -505,16 +505,6 @@ def table(server, peers, ribs, client):
     return rows
 
 
-def filtered_peers(server, peers, files, errors):
-    """The peers of whose routes left every one is filtered."""
-    ribs = [left(session(file, peer, errors)[0]) for peer, file in zip(peers, files)]
-    return [peer for peer, rib in zip(peers, ribs) if rib and all(is_filtered(server, peer, *it) for it in rib.items())]
-
-
-def is_filtered(server, peer, prefix, route):
-    return is_eligible(server, peer, route) and filtered(server, peer, prefix, route) is not None
-
-
 # ---- dumps and report (RFC 6396, section 4.3)
 
 
