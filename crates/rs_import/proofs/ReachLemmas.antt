@@ -1,9 +1,8 @@
 -- Ranges in order: whether one has a number, by how far they reach.
-use Rattle.std.proofs.Common.{◌≡◌, ◌∙◌, cond, sym, ap, subst, refl, ℕ, ◌+◌, ◌≤◌, ◌<◌, inl, inr, true, false, List, [], ◌∷◌, ◌++◌, length, max, arith}
+use Rattle.std.proofs.Common.{◌≡◌, ◌∙◌, cond, sym, ap, subst, refl, ℕ, ◌+◌, ◌≤◌, ◌<◌, inl, inr, List, [], ◌∷◌, ◌++◌, length, max, arith}
 use Rattle.std.proofs.Common.{slice_index_or}
 use Rattle.std.specs.Prelude.{nat_le, nat_lt}
-use Rattle.std.specs.List.{HoldsAt}
-use Rattle.std.specs.List.Sorted.{IsPartitionPoint}
+use Rattle.std.specs.List.{AllWithin, HoldsAt}
 use Rattle.std.specs.Ordering.{is_lt, nat_cmp, ord_max}
 use Rattle.std.specs.declared.cmp.Ordering.{Ordering}
 use Rattle.std.specs.declared.cmp.Ordering.TheVariants.{Less, Equal, Greater}
@@ -20,23 +19,24 @@ no_range = record { first = 0; last = 0 }
 
 -- the first ranges, so many, do not begin behind the number, and the others do
 module _ (ranges : List AsRange) (count asn : ℕ)
-    (parted : IsPartitionPoint (λ range. nat_le range.first asn ≡ true) (λ range. nat_le range.first asn ≡ false) ranges count) where
+    (up_to : AllWithin (λ range. range.first ≤ asn) ranges 0 count)
+    (behind : AllWithin (λ range. asn < range.first) ranges count (length ranges)) where
   pub has-none : count ≤ 0 → nat_lt 0 count ≡ is_in_ranges ranges asn
   has-none none =
       le-ltb 0 count none
-      ∙ sym (list_any_none (is_in_range asn) ranges (λ k d inside. and_left _ _ (parted.1 k d (omega (arith, none)) inside)))
+      ∙ sym (list_any_none (is_in_range asn) ranges (λ k d inside. and_left _ _ (lt-leb (slice_index_or ranges k d).first asn (behind k d (omega (arith, none)) inside))))
 
   pub has-by_reach : (reach : ℕ) → count ≤ length ranges → IsReach ranges count reach → nat_le asn reach ≡ is_in_ranges ranges asn
   has-by_reach reach within is = elim (cases_Bool (nat_le asn reach)) [
     | inl near ↦
-        let begins = parted.0 is.1.0 no_range (omega arith) is.1.1 in
+        let begins = le-leb (slice_index_or ranges is.1.0 no_range).first asn (up_to is.1.0 no_range (omega arith) is.1.1) in
         let last = (slice_index_or ranges is.1.0 no_range).last in
         let ends = le-leb asn last (omega (arith, leb-true asn reach near, is.1.2 no_range)) in
         near ∙ sym (list_any_at (is_in_range asn) ranges is.1.0 no_range (omega (arith, is.1.1, within)) (and_from _ _ begins ends))
     | inr far ↦
         far ∙ sym (list_any_none (is_in_range asn) ranges (λ k d inside. elim (cases_lt k count) [
           | inl first ↦ and_right _ _ (lt-leb asn (slice_index_or ranges k d).last (omega (arith, leb-false asn reach far, is.0 k d (omega arith) first)))
-          | inr later ↦ and_left _ _ (parted.1 k d later inside)
+          | inr later ↦ and_left _ _ (lt-leb (slice_index_or ranges k d).first asn (behind k d later inside))
         ]))
   ]
 

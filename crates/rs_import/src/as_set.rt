@@ -5,26 +5,41 @@ ghost use Rattle.rs_import.specs.AsRanges.{is_in_ranges};
 ghost use Rattle.rs_import.specs.Reaches.{AreReaches};
 
 use crate::as_range::AsRange;
+use crate::blocks::{Blocks, Numbered};
 use std::alloc::{AllocError, Global};
 use std::marker::Model;
 
-/// A set of AS numbers, in which one is found fast. It takes 12 octets for each range.
+/// A set of AS numbers, in which one is found fast. It takes 13 octets for each range.
 #[derive(Debug, Drop)]
 pub struct AsSet {
     ranges: Vec<AsRange>,
+    // For each range, the greatest number that it or one before it has.
     reaches: Vec<u32>,
+    blocks: Blocks,
 }
 
 impl Model for AsSet {
     ghost use Rattle.std.specs.Prelude.{List};
     ghost use Rattle.rs_import.specs.declared.as_range.AsRange.{AsRange};
+    ghost use Rattle.rs_import.specs.Blocks.{AreStarts};
     ghost use Rattle.rs_import.specs.Reaches.{AreInOrder, AreReaches};
 
     ghost Value = { List AsRange };
 
     ghost view = { λ set. set.ranges.items };
 
-    ghost invariant = { λ set. AreInOrder set.ranges.items × AreReaches set.ranges.items set.reaches.items };
+    ghost invariant = { λ set.
+        AreInOrder set.ranges.items
+        × AreReaches set.ranges.items set.reaches.items
+        × AreStarts (λ range. range.first) set.ranges.items set.blocks.shift set.blocks.starts.items };
+}
+
+impl Numbered for AsRange {
+    ghost number_of = { λ range. range.first };
+
+    fn number(&self) -> u32 {
+        self.first
+    }
 }
 
 impl AsSet {
@@ -35,6 +50,7 @@ impl AsSet {
         AsSet {
             ranges: Vec::new(alloc),
             reaches: Vec::new(alloc),
+            blocks: Blocks::none(alloc),
         }
     }
 
@@ -46,10 +62,13 @@ impl AsSet {
         let alloc = *ranges.allocator();
         let mut sorted = ranges;
         sorted.sort_by_key(|range| range.first)?;
-        let reaches = reaches_of(alloc, &sorted)?;
+        let ranges = sorted.as_slice();
+        let reaches = reaches_of(alloc, ranges)?;
+        let blocks = Blocks::of(alloc, ranges)?;
         Ok(AsSet {
             ranges: sorted,
             reaches,
+            blocks,
         })
     }
 
@@ -57,7 +76,7 @@ impl AsSet {
     pub fn holds(&self, asn: u32) -> bool
         ensures { result ≡ is_in_ranges self.now asn }
     {
-        let count = self.ranges.partition_point(|range| range.first <= asn);
+        let count = self.blocks.count_up_to(&self.ranges, asn);
         count > 0 && asn <= self.reaches[count - 1]
     }
 

@@ -4,7 +4,8 @@
 //!
 //! Reading order:
 //! - What the lists have: `as_range` and `as_set` (AS numbers), `pattern` and `prefix_set` (prefixes), `vrp`, `vrps`
-//!   and `covering` (VRPs, and the validity of a route by them). Both sets of prefixes are searched by `nesting`.
+//!   and `covering` (VRPs, and the validity of a route by them). Both sets of prefixes are searched by `nesting`, and
+//!   large ones by `blocks`.
 //! - What is asked of a route: `path` (of its AS_PATH), `filter` (the reason why it is not taken in), and `policy`.
 //! - What holds of the definitions that the contracts cite: `laws`.
 //!
@@ -13,6 +14,7 @@
 
 mod as_range;
 mod as_set;
+mod blocks;
 mod covering;
 mod filter;
 mod laws;

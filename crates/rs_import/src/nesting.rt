@@ -10,6 +10,7 @@ ghost use Rattle.rs_types.specs.Covering.{covers};
 ghost use Rattle.rs_import.specs.Nesting.{IsLastCover, IsNested, IsNotBefore, IsUpTo, IsWhole, pattern_of};
 ghost use Rattle.rs_import.specs.Nesting.{prefix_of, rank_of};
 
+use crate::blocks::{Blocks, Numbered};
 use crate::pattern::Pattern;
 use rs_types::{Prefix, a_prefix_covers_itself, covers};
 use std::alloc::{AllocError, Global};
@@ -26,22 +27,35 @@ pub(crate) struct Node {
     pub(crate) most: u8,
 }
 
+impl Numbered for Node {
+    ghost number_of = { λ node. node.address };
+
+    fn number(&self) -> u32 {
+        self.address
+    }
+}
+
 // Patterns in the order of their prefixes.
 #[derive(Debug, Drop)]
 pub(crate) struct Nesting {
     nodes: Vec<Node>,
+    // The blocks of their addresses, if these were made.
+    blocks: Blocks,
 }
 
 impl Model for Nesting {
     ghost use Rattle.std.specs.Prelude.{List, map};
     ghost use Rattle.rs_import.specs.declared.pattern.Pattern.{Pattern};
+    ghost use Rattle.rs_import.specs.Blocks.{AreStarts};
     ghost use Rattle.rs_import.specs.Nesting.{IsNested, pattern_of};
 
     ghost Value = { List Pattern };
 
     ghost view = { λ nesting. map pattern_of nesting.nodes.items };
 
-    ghost invariant = { λ nesting. IsNested nesting.nodes.items };
+    ghost invariant = { λ nesting.
+        IsNested nesting.nodes.items
+        × AreStarts (λ node. node.address) nesting.nodes.items nesting.blocks.shift nesting.blocks.starts.items };
 }
 
 impl Nesting {
@@ -51,6 +65,7 @@ impl Nesting {
     {
         Nesting {
             nodes: Vec::new(alloc),
+            blocks: Blocks::none(alloc),
         }
     }
 
@@ -60,10 +75,11 @@ impl Nesting {
     {
         Ok(Nesting {
             nodes: Vec::with_capacity(alloc, capacity)?,
+            blocks: Blocks::none(alloc),
         })
     }
 
-    // Adds a pattern behind all others.
+    // Adds a pattern behind all others. Blocks that were made are gone.
     pub(crate) fn push(&mut self, pattern: Pattern) -> Result<(), AllocError>
         requires room { length self.old < 2 ^ 32 - 1 }
         requires order { IsNotBefore self.old pattern }
@@ -80,14 +96,26 @@ impl Nesting {
             least: pattern.least,
             most: pattern.most,
         })?;
+        self.blocks = Blocks::none(*self.nodes.allocator());
         Ok(())
+    }
+
+    // The same patterns, of which one is found faster if they are many. Each 8 of them take 4 octets more.
+    pub(crate) fn with_blocks(self) -> Result<Nesting, AllocError>
+        ensures { IfOk result (λ nesting. nesting ≡ self) }
+    {
+        let nodes = self.nodes;
+        let blocks = Blocks::of(*nodes.allocator(), &nodes)?;
+        Ok(Nesting { nodes, blocks })
     }
 
     // How many patterns stand up to the last one that covers a prefix: 0 if none does.
     pub(crate) fn first(&self, prefix: Prefix) -> usize
         ensures { IsLastCover self.now prefix (length self.now) result }
     {
-        last_cover(&self.nodes, prefix, count_up_to(&self.nodes, prefix))
+        let nodes = self.nodes.as_slice();
+        let count = self.blocks.count_up_to(nodes, prefix.address());
+        last_cover(nodes, prefix, count)
     }
 
     // How many patterns stand up to the last one that covers a prefix and stands before a place where one covers it.
@@ -126,17 +154,6 @@ pub(crate) fn rank_of(prefix: Prefix) -> u64
     ensures { result ≡ rank_of prefix }
 {
     u64::from(prefix.address()) * 64 + u64::from(prefix.len())
-}
-
-// How many nodes have an address that is not above that of a prefix.
-fn count_up_to(nodes: &[Node], prefix: Prefix) -> usize
-    requires { IsNested nodes.now }
-    ensures within { result ≤ length nodes.now }
-    ensures up_to { IsUpTo nodes.now prefix result }
-    ensures behind { AllWithin (λ node. prefix.address < node.address) nodes.now result (length nodes.now) }
-{
-    let address = prefix.address();
-    nodes.partition_point(|node| node.address <= address)
 }
 
 // How many nodes stand up to the last one before the end that covers a prefix: 0 if none does.

@@ -7,6 +7,7 @@ ghost use Rattle.std.specs.Prelude.{◌≡◌, ◌==◌, length, not, slice_get}
 ghost use Rattle.std.specs.Option.{option_copied, option_map};
 ghost use Rattle.rs_import.specs.Import.{begins_with, filter_by_peer, filter_of, import_tests, is_above, is_len_taken};
 ghost use Rattle.rs_import.specs.Import.{is_origin_listed, is_prefix_listed, is_rpki_invalid, no_import, no_rules};
+ghost use Rattle.rs_types.specs.AsPath.{path_length_of};
 ghost use Rattle.rs_types.specs.FirstFault.{first_fault};
 
 use crate::as_set::AsSet;
@@ -215,7 +216,7 @@ fn filter_by(
     if rules.refuse_prefixes.matches(prefix) {
         return Some(Filter::RefusedPrefix);
     }
-    if is_above(rules.max_as_path, attributes.path_length()) {
+    if is_too_long(rules.max_as_path, attributes) {
         return Some(Filter::PathLengthLimit);
     }
     if holds_one_of(attributes, &rules.refuse_as) {
@@ -227,10 +228,11 @@ fn filter_by(
     if !is_prefix_listed(lists, prefix) {
         return Some(Filter::PrefixList);
     }
-    if !is_origin_listed(lists, origin_as(attributes, own_as)) {
+    let origin = origin_as(attributes, own_as);
+    if !is_origin_listed(lists, origin) {
         return Some(Filter::OriginAs);
     }
-    if is_rpki_invalid(&rules.vrps, prefix, origin_as(attributes, own_as)) {
+    if is_rpki_invalid(&rules.vrps, prefix, origin) {
         return Some(Filter::RpkiInvalid);
     }
     None
@@ -243,13 +245,13 @@ fn is_len_taken(rules: &ImportRules, len: u8) -> bool
     rules.least_len <= len && len <= rules.most_len
 }
 
-// Whether a number is above a limit, if there is one.
-fn is_above(most: Option<u32>, number: u32) -> bool
-    ensures { result ≡ is_above most number }
+// Whether an AS_PATH is longer than a limit, if there is one.
+fn is_too_long(most: Option<u32>, attributes: &Attributes) -> bool
+    ensures { result ≡ is_above most (path_length_of attributes.now.path) }
 {
     match most {
         None => false,
-        Some(most) => most < number,
+        Some(most) => most < attributes.path_length(),
     }
 }
 

@@ -14,7 +14,7 @@ use rs_types::{Prefix, covers};
 use std::alloc::{AllocError, Global};
 use std::marker::Model;
 
-/// VRPs, of which those that cover a prefix are found fast. It takes 16 octets for each VRP.
+/// VRPs, of which those that cover a prefix are found fast. It takes 17 octets for each VRP.
 #[derive(Debug, Drop)]
 pub struct Vrps {
     nesting: Nesting,
@@ -125,6 +125,7 @@ fn table_of(alloc: Global, vrps: &[Vrp]) -> Result<Vrps, AllocError>
         nesting.push(pattern_of(vrp))?;
         asns.push(vrp.asn)?;
     }
+    let nesting = nesting.with_blocks()?;
     Ok(Vrps { nesting, asns })
 }
 

@@ -17,6 +17,6 @@ push-requires-clause-order c =
 pub returns : goal.returns
 returns c =
     let front = take c.loop-vrp.vrp-index c.args.vrps.now in
-    ap (λ (l : List Pattern). vrps_of l c.loop-vrp.asns.items) c.loop-vrp.invariant.0
+    ap (λ (l : List Pattern). vrps_of l c.loop-vrp.asns.items) (c.in_ok-nesting-2.ensures ∙ c.loop-vrp.invariant.0)
     ∙ (ap (λ (l : List ℕ). vrps_of (map pattern_of_vrp front) l) c.loop-vrp.invariant.1
     ∙ (vrps-itself front ∙ take_all c.loop-vrp.vrp-index c.args.vrps.now c.loop-vrp-test.false))

@@ -19,8 +19,8 @@ last_cover-requires-clause-up_to c =
     c.index.ensures ∙ get_or_default nodes place c.index.result.now no_node inside in
     let holds = subst (λ (l : List Pattern). HoldsAt (λ pattern. covers pattern.prefix q ≡ true) l place) (sym c.self.view_is)
     c.requires.covering in
-    let up = up_to-place nodes q place (slice_index_or nodes place no_node).parent no_node c.self.invariant inside
-    (covering-at nodes q place no_node inside holds) (c.self.invariant.before place no_node inside) in
+    let up = up_to-place nodes q place (slice_index_or nodes place no_node).parent no_node c.self.invariant.0 inside
+    (covering-at nodes q place no_node inside holds) (c.self.invariant.0.before place no_node inside) in
     subst (λ (l : List Node). IsUpTo l q c.index.result.now.parent) (sym c.deref.ensures.value)
     (subst (λ (node : Node). IsUpTo nodes q node.parent) (sym at) up)
 
@@ -38,4 +38,4 @@ returns c =
     let last = subst (λ (node : Node). IsLastCover (map pattern_of nodes) q node.parent count) at
     (subst (λ (l : List Node). IsLastCover (map pattern_of l) q c.index.result.now.parent count) c.deref.ensures.value c.last_cover.ensures) in
     subst (λ (l : List Pattern). IsLastCover l q place count) c.self.view_is
-    (last_cover-before nodes q place count no_node c.self.invariant inside (covering-at nodes q place no_node inside holds) last)
+    (last_cover-before nodes q place count no_node c.self.invariant.0 inside (covering-at nodes q place no_node inside holds) last)

@@ -2,6 +2,7 @@ use Rattle.std.proofs.Common.{arith, ◌≡◌, sym, ap, subst, ℕ, List, lengt
 use Rattle.rs_import.specs.declared.nesting.Node.{Node}
 use Rattle.rs_import.specs.declared.pattern.Pattern.{Pattern}
 use Rattle.rs_import.specs.Nesting.{IsLastCover, IsNotBefore, IsUpTo, pattern_of}
+use Rattle.rs_import.proofs.BlockLemmas.{starts-none}
 use Rattle.rs_import.proofs.CoverLemmas.{nested-push_at, node-prefix, nodes-behind, up_to-behind}
 use Rattle.rs_import.proofs.nesting.Nesting.push.Goals as goal
 
@@ -34,7 +35,8 @@ invariant_of-self-2 c =
     c.last_cover-parent.ensures) in
     let address : c.address-address.result ≡ pattern.prefix.address = c.address-address.ensures in
     let len : c.len-len.result ≡ pattern.prefix.len = c.len-len.ensures.value in
-    rw c.in_ok-push.ensures.items
-    (nested-push_at nodes one pattern.prefix
-    (node-prefix one pattern.prefix address len)
-    c.self.invariant (omega (arith, c.len-len.ensures.value, c.len-len.ensures.bound), c.a_prefix_covers_itself.ensures) behind last)
+    let nested = nested-push_at nodes one pattern.prefix (node-prefix one pattern.prefix address len) c.self.invariant.0
+    (omega (arith, c.len-len.ensures.value, c.len-len.ensures.bound), c.a_prefix_covers_itself.ensures) behind last in (
+      rw c.in_ok-push.ensures.items nested,
+      starts-none (λ (node : Node). node.address) _ _ _ (omega (arith, c.none.ensures.shift)) c.none.ensures.starts,
+    )
