@@ -77,7 +77,7 @@ module _ {X : Type 0} (number_of : X → ℕ) (items : List X) where
       | inr later ↦ block.3 k d (omega (arith, later)) before
     ]
 
--- the block of a number, where it is told of it and of the next one
+-- the items of a number's block, if the starts have that block and the next one
 pub found-block : {X : Type 0} (number_of : X → ℕ) (items : List X) (number shift from to : ℕ) (starts : List ℕ) → AreStarts number_of items shift starts
     → true ≡ nat_lt (number / 2 ^ shift) (length starts) → from ≡ slice_index_or starts (number / 2 ^ shift) from
     → true ≡ nat_lt (number / 2 ^ shift + 1) (length starts) → to ≡ slice_index_or starts (number / 2 ^ shift + 1) to
@@ -115,12 +115,12 @@ parted-start number_of items shift block start within parted = (
   λ k d low before. omega (arith, ltb-false _ _ (parted.1 k d low before)),
 )
 
--- no block is told of yet
+-- no start yet
 pub starts-none : {X : Type 0} (number_of : X → ℕ) (items : List X) (shift : ℕ) (starts : List ℕ) → shift < 32 → starts ≡ []
     → AreStarts number_of items shift starts
 starts-none number_of items shift starts fits none = (fits, λ block low. absurd (omega (arith, low, ap length none)))
 
--- one more block is told of
+-- one start more
 pub starts-push : {X : Type 0} (number_of : X → ℕ) (items : List X) (shift : ℕ) (starts : List ℕ) (start : ℕ) → AreStarts number_of items shift starts
     → IsStart number_of items shift (length starts) start → AreStarts number_of items shift (starts ++ start ∷ [])
 starts-push number_of items shift starts start before one = (

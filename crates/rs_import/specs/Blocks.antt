@@ -9,7 +9,7 @@ IsStart number_of items shift block start =
     × AllWithin (λ item. number_of item / 2 ^ shift < block) items 0 start
     × AllWithin (λ item. block ≤ number_of item / 2 ^ shift) items start (length items)
 
--- of each of the first blocks it is told how many items stand before it
+-- the starts of the first blocks: for each, how many items stand before it
 abbrev pub AreStarts : {X : Type 0} → (X → ℕ) → List X → ℕ → List ℕ → Type 0
 AreStarts number_of items shift starts =
     (shift < 32) × ((block : ℕ) → block < length starts → HoldsAt (IsStart number_of items shift block) starts block)
