@@ -1,3 +1,5 @@
+-- What the plan takes in is searched, so that a wrong body is refused soon.
+use Rattle.std.proofs.Common.{rules}
 use Rattle.rs_setup.proofs.SetupLemmas.{asks_nothing}
 use Rattle.rs_setup.proofs.setup.read_whole_setup.Goals as goal
 
@@ -8,7 +10,7 @@ returns-clause-setup g c =
       is,
       (
         rw (c.in_ok-plan.ensures.ok, c.with_import.ensures) (asks_nothing c.in_ok-parts.parts.exchange set_up),
-        (c.in_ok-parts.parts.import, import, rw (c.in_ok-plan.ensures.ok, c.with_import.ensures) c.in_ok-policy.ensures),
+        (c.in_ok-parts.parts.import, import, rw (c.in_ok-plan.ensures.ok, c.with_import.ensures) (search rules)),
       ),
     )
 
