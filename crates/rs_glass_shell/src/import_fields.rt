@@ -1,6 +1,6 @@
 //! Why import policy doesn't take a route in, and the validity of a route by RPKI: as fields of rows.
 
-use crate::import_text::{PatternText, rpki_validity, validity_key};
+use crate::import_text::{PatternText, is_repeated, rpki_validity, validity_key};
 use crate::names::PrefixText;
 use rs_choice::Exchange;
 use rs_explain::FilteredBy;
@@ -46,12 +46,16 @@ pub(crate) fn hand_filtered(
     }
 }
 
-// Hands over the VRPs that cover a prefix, the most specific ones first.
+// Hands over the VRPs that cover a prefix, each once, the most specific ones first.
 fn hand_covering(row: &mut RowWriter<'_>, plan: &Exchange, prefix: Prefix) {
     let mut list = RowWriter::objects(row.alloc());
     if let Some(vrps) = &plan.import().rules().vrps {
+        let mut place: usize = 0;
         for vrp in vrps.covering(prefix) {
-            hand_vrp(&mut list, vrp);
+            if !is_repeated(vrps, prefix, place, &vrp) {
+                hand_vrp(&mut list, vrp);
+            }
+            place = place.saturating_add(1);
         }
     }
     row.value("vrps", list.into_value());

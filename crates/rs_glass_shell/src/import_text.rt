@@ -151,24 +151,33 @@ fn write_invalid<W: fmt::Write>(
     }
 }
 
+// Whether a VRP that covers a prefix, with so many before it, stands among these too. Two trust anchors may give it.
+pub(crate) fn is_repeated(vrps: &Vrps, prefix: Prefix, place: usize, vrp: &Vrp) -> bool {
+    vrps.covering(prefix)
+        .take(place)
+        .any(|earlier| earlier == *vrp)
+}
+
 // How many VRPs a text names.
 const NAMED: usize = 4;
 
-// Writes which ASes the VRPs that cover a prefix allow: the first four, and how many more VRPs there are. AS 0 allows
-// none.
+// Writes which ASes the VRPs that cover a prefix allow: the first four, and how many more VRPs there are, each counted
+// once. AS 0 allows none.
 fn write_allowed<W: fmt::Write>(
     f: &mut fmt::Formatter<W>,
     vrps: &Vrps,
     prefix: Prefix,
 ) -> fmt::Result {
+    let mut place: usize = 0;
     let mut count: usize = 0;
     for vrp in vrps.covering(prefix) {
-        if vrp.asn != 0 {
+        if vrp.asn != 0 && !is_repeated(vrps, prefix, place, &vrp) {
             if count < NAMED {
                 write_vrp(f, count, vrp)?;
             }
             count = count.saturating_add(1);
         }
+        place = place.saturating_add(1);
     }
     if count == 0 {
         return f.write_str("no AS");
