@@ -17,11 +17,13 @@ use std::alloc::{AllocError, Global};
 // How many other peers are named.
 const FEW: usize = 4;
 
-// What the description says of the picture.
+// What the description says of the picture, before and behind the words for routes whose bars are hollow.
 const ABOUT: &str =
     "Time goes from left to right, in UTC. Each peer that announced the prefix has a lane with a bar for each of its routes. \
-A bar is high while the client gets the route, or if no client is asked for, and else low. It is hollow if the route is refused to the client or ineligible, \
-and a line if it is the client's own route. The lane of the client shows whose route it gets.\n";
+A bar is high while the client gets the route, or if no client is asked for, and else low. It is hollow if the route is ";
+
+const ABOUT_OTHERS: &str =
+    ", and a line if it is the client's own route. The lane of the client shows whose route it gets.\n";
 
 /// The picture of a history, which has all that happened before what is shown too. `lines` is the history as a text.
 pub(crate) fn history_picture(
@@ -41,7 +43,7 @@ pub(crate) fn history_picture(
         (WIDTH, height),
         " version=\"1.1\"",
         &format!(in alloc; "History of {prefix}")?,
-        &description(alloc, lines)?,
+        &description(alloc, has_import(view), lines)?,
     )?;
     text.push_str("<style>")?;
     text.push_str(PALETTE)?;
@@ -55,9 +57,20 @@ pub(crate) fn history_picture(
     Ok(text)
 }
 
+// Whether import policy is configured: only then a route may be filtered.
+fn has_import(view: &HistoryView<'_>) -> bool {
+    view.plan.import().is_configured()
+}
+
 // The description: what is drawn, and the history line by line.
-fn description(alloc: Global, lines: &str) -> Result<String, AllocError> {
+fn description(alloc: Global, has_import: bool, lines: &str) -> Result<String, AllocError> {
     let mut text = String::from_str(alloc, ABOUT)?;
+    text.push_str(if has_import {
+        "refused to the client, filtered or ineligible"
+    } else {
+        "refused to the client or ineligible"
+    })?;
+    text.push_str(ABOUT_OTHERS)?;
     for line in lines.split('\n') {
         add_text(&mut text, line)?;
         text.push('\n')?;
@@ -86,7 +99,7 @@ fn add_lanes_and_times(text: &mut String, canvas: &Canvas<'_>) -> Result<(), All
         add_lanes(text, canvas)?;
         below = below.saturating_add(ROW);
         if canvas.history.client.is_some() {
-            add_key_to_bars(text, below)?;
+            add_key_to_bars(text, has_import(canvas.view), below)?;
             below = below.saturating_add(ROW);
         }
         add_key_to_marks(text, below)?;
@@ -120,17 +133,22 @@ fn add_time(text: &mut String, mark: &Mark, below: u32) -> Result<(), AllocError
 }
 
 // Adds the key to bars: what becomes of a route at the client.
-fn add_key_to_bars(text: &mut String, top: u32) -> Result<(), AllocError> {
+fn add_key_to_bars(text: &mut String, has_import: bool, top: u32) -> Result<(), AllocError> {
     let base = top.saturating_add(BASE);
+    let (hollow, own) = if has_import {
+        ("refused, filtered or ineligible", 640)
+    } else {
+        ("refused or ineligible", 560)
+    };
     text.push_str("<g>")?;
     add_rectangle(text, "kb", (0, top.saturating_add(4)), (20, 20))?;
     add_word(text, "chosen", (26, base))?;
     add_rectangle(text, "line", (130, top.saturating_add(10)), (20, 8))?;
     add_word(text, "not chosen", (156, base))?;
     add_rectangle(text, "hollow", (290, top.saturating_add(11)), (20, 6))?;
-    add_word(text, "refused or ineligible", (316, base))?;
-    add_rectangle(text, "line", (560, top.saturating_add(13)), (20, 2))?;
-    add_word(text, "own route", (586, base))?;
+    add_word(text, hollow, (316, base))?;
+    add_rectangle(text, "line", (own, top.saturating_add(13)), (20, 2))?;
+    add_word(text, "own route", (own.saturating_add(26), base))?;
     text.push_str("</g>\n")
 }
 
