@@ -59,8 +59,11 @@ fn first_again<R: AllocGlobal + Files>(
     Ok(None)
 }
 
-// The file at the path, where it gives its octets only once.
-fn read_once_at<R: Files>(rt: &R, path: &str) -> Result<Option<FileIdentity>, AllocError> {
+/// The file at the path, if it gives its octets only once.
+pub(crate) fn read_once_at<R: Files>(
+    rt: &R,
+    path: &str,
+) -> Result<Option<FileIdentity>, AllocError> {
     match found_at(rt, path)? {
         Some(found) if is_read_once(&found) => Ok(Some(FileIdentity::of(&found))),
         _ => Ok(None),

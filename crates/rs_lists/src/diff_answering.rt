@@ -11,7 +11,7 @@ use rs_glass_shell::{
     Built, Reply, Unanswered, Whose, answer_with, name_at, name_width, peer_named, peer_of_name,
     served,
 };
-use rs_host::{DONE, configuration};
+use rs_host::{DONE, Unready, configurations, first_unreadable};
 use rs_query::DiffQuery;
 use rs_rows::{Column, RowWriter};
 use rs_setup::Setup;
@@ -45,8 +45,7 @@ pub fn diff<R: AllocGlobal + Files + Threads + Wait + Sync + Print>(
 where
     R::File: Send,
 {
-    let old = configuration(rt, &query.old.config)?;
-    let new = configuration(rt, &query.new.config)?;
+    let (old, new) = configurations(rt, &query.old.config, &query.new.config)?;
     let (after, text, differs) = compared(rt, &old, &new, query)?;
     let known = after.known(rt, &new, query.new.losses, Whose::Nobody)?;
     let mut reply = answer_with(text, known.notes);
@@ -67,10 +66,28 @@ where
     requires new { length new.now.files.items ≡ length new.now.plan.value.peers }
 {
     let clients = clients(rt, old, new, &query.client)?;
+    refuse_unreadable(rt, old, new)?;
     let before = served(rt, old, &query.old)?;
     let after = served(rt, new, &query.new)?;
     let (text, differs) = listed(rt, before.tables(), after.tables(), &clients, query)?;
     Ok((after, text, differs))
+}
+
+// Refuses the first recorded file of two setups that isn't there, or that gives its octets only once and is named
+// before.
+fn refuse_unreadable<R: AllocGlobal + Files>(
+    rt: &R,
+    old: &Setup,
+    new: &Setup,
+) -> Result<(), Unready> {
+    let mut paths = Vec::new(rt.alloc());
+    for path in old.files.iter().chain(new.files.iter()) {
+        paths.push(path.clone()?).map_err(|_| Unready::Memory)?;
+    }
+    match first_unreadable(rt, &paths)? {
+        Some(place) => Err(Unready::by_path(rt.alloc(), &paths[place])),
+        None => Ok(()),
+    }
 }
 
 // The same, of the tables of both.
