@@ -69,7 +69,7 @@ class Bench:
         told, strict = ran.stderr.decode(errors="replace"), "--strict-after" in words
         reasons = [line for line in told.splitlines() if not re.search(NO_REASON, line)]
         clean = not strict or not reasons and all(line.endswith(" close end") for line in report.splitlines() if line.startswith("peer "))
-        wrong = wrong_notes(server, peers, report, files, told, strict)
+        wrong = wrong_notes(server, peers, report, files, told, strict, errors)
         if ran.returncode != (0 if clean else 5) or wrong:
             return f"status {ran.returncode}: {told}"
         if ran.stdout.decode() != report:
@@ -87,16 +87,16 @@ DOUBTS = r"(\S+ is empty|their files are empty|a loss at .*|losses are recorded 
 NO_REASON = r"note: peers? [\w, ]+: large communities 64500:\*:\* have no effect "
 
 
-def wrong_notes(server, peers, report, files, told, strict):
+def wrong_notes(server, peers, report, files, told, strict, errors):
     """The lines that may not be told, and those that must be: a run notes nothing but peers whose files gave only the close, files in which the session of a peer
-    closed within a record that the end of the file cuts short, and, if it is strict, what `session_notes`, `server_note` and `import_notes` say."""
+    closed within a record that the end of the file cuts short, and, if it is strict, what `session_notes`, `server_note`, `filtered_note` and `list_notes` say."""
     silent = set(re.findall(r"^peer (\S+) changes 1 ", report, re.M))
     ends = re.findall(r"^peer .* close (.*)$", report, re.M)
     cut = {note: name for (name, octets), end in zip(files, ends) if end in ("mrt M1", "mrt M2") for note in cut_notes(name, octets, len(files), strict)}
-    must = session_notes(peers, ends, files) + server_note(server, files) if strict else []
+    must = session_notes(peers, ends, files) + server_note(server, files) + filtered_note(server, peers, files, errors) if strict else []
     lines = told.splitlines()
     wrong = [line for line in must if lines.count(line) != 1]
-    for form in import_notes(server, peers) if strict else []:
+    for form in list_notes(server, peers) if strict else []:
         said = [line for line in lines if re.fullmatch(form, line)]
         wrong += [form] * (len(said) != 1)
         lines = [line for line in lines if line not in said]
@@ -155,7 +155,15 @@ def names_text(names):
     return " and ".join(filter(None, [", ".join(names[:-1]), names[-1]]))
 
 
-def import_notes(server, peers):
+def filtered_note(server, peers, files, errors):
+    """The note on peers that left routes, each of which is filtered."""
+    names = [peer.name for peer in slow_reading.filtered_peers(server, peers, [octets for _, octets in files], errors)]
+    if len(names) == 1:
+        return [f"route_server: note: peer {names[0]}: all of its routes are filtered (a wrong list?)"]
+    return [f"route_server: note: peers {names_text(names)}: all of their routes are filtered (wrong lists?)"] if names else []
+
+
+def list_notes(server, peers):
     """The form of the note on lists and VRP files without an entry. It names the first file."""
     empty = [file.name for file in slow_reading.empty_lists(server, peers)]
     return [rf"route_server: note: {re.escape(empty[0])} .*no entr.*"] if empty else []

@@ -432,8 +432,14 @@ def failed_conditions(server, peer, prefix, route):
 
 
 def filtered(server, peer, prefix, route):
-    """The reason why a route is not taken in, and what is told of it; None where it is. It is asked of eligible routes."""
+    """The reason why a route is not taken in, and what is told of it; None where it is. Eligibility is not asked."""
     return next(failed_conditions(server, peer, prefix, route), None) if peer.import_ else None
+
+
+def filtered_peers(server, peers, files, errors):
+    """The peers that left routes, none of which is taken in."""
+    ribs = [left(session(file, peer, errors)[0]) for peer, file in zip(peers, files)]
+    return [peer for peer, rib in zip(peers, ribs) if rib and all(filtered(server, peer, *it) for it in rib.items())]
 
 
 # ---- the table of a client (RFC 4271, section 9.1; RFC 7947, section 2.3)

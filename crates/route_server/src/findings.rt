@@ -3,9 +3,11 @@
 use rs_host::{Options, Strictness};
 use rs_losses::Losses;
 use rs_mrt::Tail;
-use rs_notes::{Close, Ending, Notes, Outlines, Subject, Telling, notes_of, notes_on, print_texts};
+use rs_notes::{
+    Close, Ending, Notes, Outlines, Subject, Telling, add_filtered, notes_of, notes_on, print_texts,
+};
 use rs_run::ReasonText;
-use rs_serve::PeerEnd;
+use rs_serve::{PeerEnd, Served};
 use rs_session::Reason;
 use rs_setup::Setup;
 use std::alloc::{AllocError, Global};
@@ -29,29 +31,29 @@ pub(crate) struct Findings {
 }
 
 impl Findings {
-    /// What a run finds whose sessions ended so, in the order of the peers. Outlines of the files are used if the options
-    /// ask for more than notes on likely mistakes.
+    /// What a run finds that is served so. Outlines of the files are used if the options ask for more than notes on
+    /// likely mistakes.
     pub(crate) fn of<R: AllocGlobal + Files>(
         rt: &R,
         setup: &Setup,
         options: &Options,
         outlines: &Outlines,
-        ends: &[PeerEnd],
+        served: &Served,
     ) -> Findings {
         let alloc = rt.alloc();
-        let notes = match endings_of(alloc, ends) {
-            Ok(endings) => notes(rt, setup, options, outlines, &endings),
+        let notes = match endings_of(alloc, served) {
+            Ok(endings) => notes(rt, setup, options, outlines, served, &endings),
             // A run of which nothing is known isn't clean.
             Err(_) => Notes {
                 texts: Vec::new(alloc),
                 any: true,
             },
         };
-        let closed = ends.iter().filter(|end| closes_early(end)).count();
+        let closed = count_closed(served);
         let closes = if closed == 0 {
             None
         } else {
-            closes_line(alloc, setup, ends, closed).ok()
+            closes_line(alloc, served, closed).ok()
         };
         Findings {
             notes,
@@ -84,6 +86,7 @@ fn notes<R: AllocGlobal + Files>(
     setup: &Setup,
     options: &Options,
     outlines: &Outlines,
+    served: &Served,
     endings: &[Ending],
 ) -> Notes {
     let bounds = options.bounds;
@@ -101,13 +104,19 @@ fn notes<R: AllocGlobal + Files>(
         telling,
         inferred: options.losses == Losses::Inferred,
     };
-    notes_of(rt, subject, &outlines.contents(rt, &setup.files))
+    let mut notes = notes_of(rt, subject, &outlines.contents(rt, &setup.files));
+    if telling == Telling::All {
+        add_filtered(rt.alloc(), served.tables(), &mut notes);
+    }
+    notes
 }
 
 // How the session of each peer ended, for the notes.
-fn endings_of(alloc: Global, ends: &[PeerEnd]) -> Result<Vec<Ending>, AllocError> {
-    let mut endings = Vec::with_capacity(alloc, ends.len())?;
-    for end in ends {
+fn endings_of(alloc: Global, served: &Served) -> Result<Vec<Ending>, AllocError> {
+    let count = served.tables().count();
+    let mut endings = Vec::with_capacity(alloc, count)?;
+    for peer in 0..count {
+        let end = served.end(peer);
         endings.push(Ending {
             changes: end.changes,
             close: close_of(end.reason),
@@ -125,24 +134,32 @@ fn close_of(reason: Reason) -> Close {
     }
 }
 
+// How many sessions closed before the end of their files.
+fn count_closed(served: &Served) -> usize {
+    let mut closed: usize = 0;
+    for peer in 0..served.tables().count() {
+        if closes_early(&served.end(peer)) {
+            closed = closed.saturating_add(1);
+        }
+    }
+    closed
+}
+
 // Whether a session closed before the end of its file.
 fn closes_early(end: &PeerEnd) -> bool {
     end.reason != Reason::EndOfFile
 }
 
 // The line on the sessions that closed before the end of their files, of which there are so many.
-fn closes_line(
-    alloc: Global,
-    setup: &Setup,
-    ends: &[PeerEnd],
-    closed: usize,
-) -> Result<String, AllocError> {
+fn closes_line(alloc: Global, served: &Served, closed: usize) -> Result<String, AllocError> {
+    let tables = served.tables();
     let mut text = String::from_str(alloc, "closed before the end of its file:")?;
     let mut named: usize = 0;
-    for peer in 0..ends.len().min(setup.plan.count()) {
-        if named < NAMED && closes_early(&ends[peer]) {
+    for peer in 0..tables.count() {
+        let end = served.end(peer);
+        if named < NAMED && closes_early(&end) {
             let separator = if named == 0 { "" } else { "," };
-            let (name, reason) = (&setup.plan.peer(peer).name, ReasonText(ends[peer].reason));
+            let (name, reason) = (&tables.plan().peer(peer).name, ReasonText(end.reason));
             write!(text, "{separator} peer {name} by {reason}")?;
             named += 1;
         }

@@ -19,7 +19,7 @@ use rs_program::{
     Cleared, Ended, FolderOutlet, Progress, command_line, end, progress_on, ready_files, run_status,
 };
 use rs_run::{Ran, run_if};
-use rs_serve::PeerEnd;
+use rs_serve::Served;
 use rs_setup::Setup;
 use std::alloc::Global;
 use std::fs::Files;
@@ -72,8 +72,8 @@ where
     let outlines = outlines_for(rt.alloc(), setup, options);
     let files = ready_files(rt, setup, options, &progress, &outlines)?;
     let mut found = None;
-    let ran = run_over(rt, setup, options, files, &progress, |ends| {
-        let findings = Findings::of(rt, setup, options, &outlines, ends);
+    let ran = run_over(rt, setup, options, files, &progress, |served| {
+        let findings = Findings::of(rt, setup, options, &outlines, served);
         let is_wanted = findings.is_clean() || options.strict != Strictness::BeforeWriting;
         found = Some(findings);
         is_wanted
@@ -89,18 +89,18 @@ where
 fn outlines_for(alloc: Global, setup: &Setup, options: &Options) -> Outlines {
     let bounds = options.bounds;
     if options.strict == Strictness::Off && bounds.tail == Tail::Strict {
-        Outlines::none(alloc, bounds.until)
+        Outlines::none(alloc, bounds)
     } else {
         Outlines::within(alloc, setup, bounds)
     }
 }
 
 // Runs over opened files: dumps go to the folder of the options, the report to standard output, if `is_wanted` says so
-// by how the sessions ended.
+// by what is served.
 fn run_over<
     R: AllocGlobal + Files + Print + Threads + Wait + Sync,
     F: Read + Send + Drop,
-    D: FnOnce(&[PeerEnd]) -> bool,
+    D: FnOnce(&Served) -> bool,
 >(
     rt: &R,
     setup: &Setup,

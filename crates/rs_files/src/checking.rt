@@ -3,24 +3,32 @@
 //!
 //! Our choices: each file is read twice, however many peers name it, and once more for each of its sessions that may close
 //! before its end. It is read within the bounds and by the standard of the run. The notes are those of a run, made of
-//! what the first reading tells. What was asked for, as a tail that is left out, has its note and is no reason for a
+//! what the first reading tells. Only if import policy is configured, the tables of the run are built too, for the note
+//! on peers of whose routes every one is filtered. That needs each file once more, so there is no such note if a file
+//! gives its octets only once. What was asked for, as a tail that is left out, has its note and is no reason for a
 //! status.
+
+ghost use Rattle.std.specs.Prelude.{◌≡◌, length};
 
 use crate::checked_peer::add_peer;
 use crate::import_lines::add_import;
 use crate::recordings::inventory_at;
 use crate::refused::refusal_text;
 use crate::unreadable::unreadable_text;
-use rs_glass_shell::{Reply, Unanswered};
+use rs_glass_shell::{Reply, Unanswered, served_as_checked};
 use rs_host::{DONE, FAILED, NOT_CLEAN, REFUSED, Unready, configuration_of, found_at, read_file};
 use rs_losses::Losses;
 use rs_mrt::Bounds;
-use rs_notes::{Close, Contents, Ending, Subject, Telling, contents_of, front_at, notes_of};
+use rs_notes::{
+    Close, Contents, Ending, Notes, Subject, Telling, add_filtered, contents_of, front_at, notes_of,
+};
 use rs_query::CheckQuery;
 use rs_setup::{Setup, SetupFault};
 use std::alloc::{AllocError, Global};
 use std::env::Env;
 use std::fs::Files;
+use std::sync::Wait;
+use std::thread::Threads;
 
 // How many changes a peer is assumed to have, so that it may get a note.
 const CLOSE_ALONE: u64 = 1;
@@ -29,10 +37,13 @@ const CLOSE_ALONE: u64 = 1;
 /// 0 if the run would be clean. It is 1 if the configuration or a list would be refused, and 2 if a file would fail. It
 /// is 5 if a session would close before the end of its file, or if there would be a note. A note on what was asked for
 /// doesn't count.
-pub fn check<R: AllocGlobal + Files + Env>(
+pub fn check<R: AllocGlobal + Files + Env + Threads + Wait + Sync>(
     rt: &R,
     query: &CheckQuery,
-) -> Result<Reply, Unanswered> {
+) -> Result<Reply, Unanswered>
+where
+    R::File: Send,
+{
     let alloc = rt.alloc();
     let path = query.config.as_str();
     let octets = match read_file(rt, path) {
@@ -61,11 +72,15 @@ fn told(alloc: Global, text: String, status: u8) -> Reply {
 }
 
 // Tells which files of a setup can't be read, or what they hold.
-fn check_files<R: AllocGlobal + Files + Env>(
+fn check_files<R: AllocGlobal + Files + Env + Threads + Wait + Sync>(
     rt: &R,
     setup: &Setup,
     query: &CheckQuery,
-) -> Result<Reply, Unanswered> {
+) -> Result<Reply, Unanswered>
+where
+    R::File: Send,
+    requires { length setup.now.files.items ≡ length setup.now.plan.value.peers }
+{
     let text = unreadable_text(rt, setup)?;
     if !text.is_empty() {
         return Ok(told(rt.alloc(), text, FAILED));
@@ -116,12 +131,16 @@ fn read_contents<'a, R: AllocGlobal + Files>(
 
 // Says what was read of import policy, what these files have of each peer of a setup, where its session closes, and the
 // notes.
-fn check_contents<R: AllocGlobal + Files>(
+fn check_contents<R: AllocGlobal + Files + Threads + Wait + Sync>(
     rt: &R,
     setup: &Setup,
     files: &[Contents<'_>],
     query: &CheckQuery,
-) -> Result<Reply, Unanswered> {
+) -> Result<Reply, Unanswered>
+where
+    R::File: Send,
+    requires { length setup.now.files.items ≡ length setup.now.plan.value.peers }
+{
     let mut text = String::new(rt.alloc());
     add_import(&mut text, &setup.plan)?;
     let mut endings = Vec::new(rt.alloc());
@@ -144,14 +163,18 @@ fn check_contents<R: AllocGlobal + Files>(
 }
 
 // Adds the notes. Answers whether there is any, but for those on what was asked for.
-fn add_notes<R: AllocGlobal + Files>(
+fn add_notes<R: AllocGlobal + Files + Threads + Wait + Sync>(
     rt: &R,
     text: &mut String,
     setup: &Setup,
     query: &CheckQuery,
     endings: &[Ending],
     files: &[Contents<'_>],
-) -> Result<bool, AllocError> {
+) -> Result<bool, Unanswered>
+where
+    R::File: Send,
+    requires { length setup.now.files.items ≡ length setup.now.plan.value.peers }
+{
     let subject = Subject {
         setup,
         bounds: query.bounds,
@@ -159,9 +182,36 @@ fn add_notes<R: AllocGlobal + Files>(
         telling: Telling::All,
         inferred: query.losses == Losses::Inferred,
     };
-    let notes = notes_of(rt, subject, files);
+    let mut notes = notes_of(rt, subject, files);
+    add_import_notes(rt, setup, query, files, &mut notes)?;
     for note in &notes.texts {
         writeln!(text, "{note}")?;
     }
     Ok(notes.any)
+}
+
+// Adds the note on peers of whose routes every one is filtered: if import policy is configured, and each file gives its
+// octets each time it is read.
+fn add_import_notes<R: AllocGlobal + Files + Threads + Wait + Sync>(
+    rt: &R,
+    setup: &Setup,
+    query: &CheckQuery,
+    files: &[Contents<'_>],
+    notes: &mut Notes,
+) -> Result<(), Unanswered>
+where
+    R::File: Send,
+    requires { length setup.now.files.items ≡ length setup.now.plan.value.peers }
+{
+    if !setup.plan.import().is_configured() || !are_in_full(files, &setup.files) {
+        return Ok(());
+    }
+    let served = served_as_checked(rt, setup, query)?;
+    add_filtered(rt.alloc(), served.tables(), notes);
+    Ok(())
+}
+
+// Whether the content of each file of these paths is known.
+fn are_in_full(files: &[Contents<'_>], paths: &[String]) -> bool {
+    paths.iter().all(|path| contents_of(files, path).is_some())
 }

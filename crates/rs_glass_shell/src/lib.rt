@@ -51,7 +51,7 @@ pub use route_text::{
     attributes_text, community_texts, hex_text, large_community_texts, lists_large_communities,
     path_text,
 };
-pub use serving::served;
+pub use serving::{served, served_as_checked};
 pub use setup::{peer_named, peer_of_name};
 pub use shell_words::add_shell_word;
 pub use toml_text::{PeerNames, quoted};

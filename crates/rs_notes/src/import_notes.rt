@@ -3,21 +3,23 @@
 //!
 //! Our choice: a file that is named several times counts once, and so does one of a peer of which nothing is asked.
 
+use crate::all_filtered::{Intake, intakes};
 use crate::group::{Detail, Group, Told};
 use crate::notes::Notes;
 use rs_choice::Exchange;
 use rs_host::on_one_line;
 use rs_import::PeerImport;
 use rs_setup::Setup;
+use rs_table::Tables;
 use std::alloc::{AllocError, Global};
 
 /// What is said of answers if no import policy is configured. It is no note.
 pub const BEFORE_IMPORT: &str =
     "no import policy is configured: answers are those before it, and may have routes that the exchange filters";
 
-// The lists and the VRP file of an exchange, as they are taken one by one.
+// Which lists and VRP files of an exchange have no entry, as they are taken one by one.
 #[derive(Clone, Copy, Drop)]
-struct ListFiles<'a> {
+struct EmptyFiles<'a> {
     // Their paths, in the order in which they are read, and how many of them were taken.
     paths: &'a [String],
     taken: usize,
@@ -26,7 +28,7 @@ struct ListFiles<'a> {
     more: usize,
 }
 
-impl<'a> ListFiles<'a> {
+impl<'a> EmptyFiles<'a> {
     // Takes the next one, which has so many entries.
     fn take(&mut self, entries: usize) {
         if let Some(path) = self.paths.get(self.taken) {
@@ -67,15 +69,15 @@ impl<'a> ListFiles<'a> {
 
 /// Adds the note on lists and VRP files without an entry, if there are any: on the first one, and so many more.
 pub(crate) fn add_empty_lists(alloc: Global, setup: &Setup, notes: &mut Notes) {
-    let files = list_files(&setup.plan, &setup.lists);
+    let files = empty_files(&setup.plan, &setup.lists);
     if let Some(path) = files.first {
         notes.add(empty_list_line(alloc, path, files.more));
     }
 }
 
-// The lists and the VRP file at these paths, all of them taken.
-fn list_files<'a>(plan: &Exchange, paths: &'a [String]) -> ListFiles<'a> {
-    let mut files = ListFiles {
+// Which of the lists and the VRP file at these paths have no entry.
+fn empty_files<'a>(plan: &Exchange, paths: &'a [String]) -> EmptyFiles<'a> {
+    let mut files = EmptyFiles {
         paths,
         taken: 0,
         first: None,
@@ -101,11 +103,16 @@ fn empty_list_line(alloc: Global, path: &str, more: usize) -> Result<String, All
     format!(in alloc; "{path} and {more} more have no entry (IPv6 is passed over)")
 }
 
-/// Adds the note on the peers of these names, of whose routes import policy filters every one.
-pub fn add_filtered(alloc: Global, names: &[&str], notes: &mut Notes) {
+/// Adds the note on the peers of these tables that left routes of which import policy takes in none. Eligibility is not
+/// asked. If import policy is not configured, there is no such note, and no route is looked at.
+pub fn add_filtered(alloc: Global, tables: &Tables, notes: &mut Notes) {
+    let all = intakes(tables);
     let mut group = Group::none(alloc);
-    for name in names {
-        group.add(name, filtered_told(alloc, name));
+    for peer in 0..tables.count() {
+        if all[peer] == Intake::Nothing {
+            let name = &tables.plan().peer(peer).name;
+            group.add(name, filtered_told(alloc, name));
+        }
     }
     notes.add_group(
         alloc,

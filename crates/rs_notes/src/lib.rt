@@ -5,12 +5,13 @@
 //! record of its peer), `near` (which peer is meant then), `cut` (where a file ends within a record). `lost` finds a loss
 //! with the address of no peer. Then what notes are about: `subject`, `peers`, `contents` (what files hold), `look`
 //! (what a file shows of which nothing was kept). Then the notes: `note` (their texts), `group` (one line on several
-//! peers), `mistakes`, `doubts`, `import_notes`, `exchange`, `notes`. What files hold, made while they are read:
-//! `outline`, `noting`, `outlines`.
+//! peers), `mistakes`, `doubts`, `all_filtered` (which peers left only routes that are filtered), `import_notes`,
+//! `exchange`, `notes`. What files hold, made while they are read: `outline`, `noting`, `outlines`.
 //!
 //! A call that allocates fails if memory is refused.
 #![tactic(auto)]
 
+mod all_filtered;
 mod contents;
 mod cut;
 mod doubts;

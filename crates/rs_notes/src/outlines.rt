@@ -25,10 +25,10 @@ pub struct Outlines {
 }
 
 impl Outlines {
-    /// Outlines of no file, of which records are read up to a time, in seconds since 1970.
-    pub fn none(alloc: Global, until: Option<u32>) -> Outlines {
+    /// Outlines of no file, if so much is read of each file.
+    pub fn none(alloc: Global, bounds: Bounds) -> Outlines {
         Outlines {
-            bounds: up_to(until),
+            bounds,
             files: Vec::new(alloc),
             opened: AtomicUsize::new(0),
         }

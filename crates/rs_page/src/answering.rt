@@ -6,7 +6,7 @@ use crate::head::add_head;
 use crate::histogram::add_histogram;
 use crate::lanes::add_sessions;
 use crate::matrix::add_matrix;
-use crate::members::{members_of, names_of_filtered};
+use crate::members::members_of;
 use crate::shown::Shown;
 use crate::style::STYLE;
 use crate::times::times_of;
@@ -50,8 +50,7 @@ where
         inferred: losses == Losses::Inferred,
     };
     let mut notes = notes_of(rt, subject, &contents);
-    let filtered = names_of_filtered(alloc, &setup.plan, &members)?;
-    add_filtered(alloc, &filtered, &mut notes);
+    add_filtered(alloc, served.tables(), &mut notes);
     let text = page_text(
         alloc,
         &Shown {

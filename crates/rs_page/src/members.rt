@@ -5,8 +5,6 @@ ghost use Rattle.std.specs.Prelude.{◌<◌};
 use crate::bars::Bar;
 use crate::filters::filtered_of;
 use crate::times::Times;
-use rs_choice::Exchange;
-use rs_glass_shell::name_at;
 use rs_survey::{ConditionKind, Finding, Tally};
 use std::alloc::{AllocError, Global};
 
@@ -129,11 +127,6 @@ impl Member {
         Ok(bars)
     }
 
-    /// Whether import policy filters every route that the peer left.
-    pub(crate) fn is_all_filtered(&self) -> bool {
-        self.left > 0 && self.filtered == self.left
-    }
-
     // The numbers of this peer and of another one together.
     fn with(self, other: &Member) -> Member {
         Member {
@@ -204,21 +197,6 @@ fn pair_of(tally: &Tally, client: usize, peer: usize) -> Member
         best: tally.count(Finding::Best(client, peer)),
         ..NOBODY
     }
-}
-
-/// The names of the peers of whose routes import policy filters every one.
-pub(crate) fn names_of_filtered<'a>(
-    alloc: Global,
-    plan: &'a Exchange,
-    members: &[Member],
-) -> Result<Vec<&'a str>, AllocError> {
-    let mut names = Vec::new(alloc);
-    for (peer, member) in members.iter().enumerate() {
-        if member.is_all_filtered() {
-            names.push(name_at(plan, peer))?;
-        }
-    }
-    Ok(names)
 }
 
 /// The numbers of all peers together.

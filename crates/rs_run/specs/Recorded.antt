@@ -3,11 +3,12 @@
 use Rattle.std.specs.Prelude.{ℕ, List, map}
 use Rattle.rs_choice.specs.Plan.{Plan}
 use Rattle.rs_serve.specs.Identity.{id_of}
-use Rattle.rs_serve.specs.Served.{changes_by_peer, tables_of}
+use Rattle.rs_serve.specs.Served.{ServedContent, changes_by_peer, tables_of}
 use Rattle.rs_mrt.specs.Reader.{ReadEnd}
 use Rattle.rs_session.specs.Given.{OverGivenFiles, MayFailAt}
 use Rattle.rs_table.specs.Content.{TablesContent}
 use Rattle.rs_update.specs.declared.errors.Errors.{Errors}
+use Rattle.rs_run.specs.SessionEnd.{ends_of_files}
 
 -- The statement is true of some recorded files that the readers may give, one for each peer, in the order of the
 -- peers.
@@ -22,3 +23,8 @@ FailsAt gives errors plan readers peer = MayFailAt gives errors (map id_of plan.
 -- the tables after all files were read, one file for each peer, in the order of the peers
 abbrev pub tables_of_files : Errors → Plan → List (List ℕ) → TablesContent
 tables_of_files errors plan files = tables_of plan (changes_by_peer errors plan files)
+
+-- what is served of all files: these tables, and how each session ended
+abbrev pub served_of_files : Errors → Plan → List (List ℕ) → ServedContent
+served_of_files errors plan files =
+    record { tables = tables_of_files errors plan files; ends = ends_of_files errors plan files }

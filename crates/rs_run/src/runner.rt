@@ -9,7 +9,7 @@ ghost use Rattle.std.specs.Prelude.{◌≡◌, ◌<◌, ◌≤◌, All, IfOk, If
 ghost use Rattle.rs_keep.specs.Kept.{dumps_of, IsStop};
 ghost use Rattle.rs_outlet.specs.Outlet.{Grows};
 ghost use Rattle.rs_outlet.specs.Started.{AreSameNames};
-ghost use Rattle.rs_run.specs.Recorded.{OverFiles, tables_of_files};
+ghost use Rattle.rs_run.specs.Recorded.{OverFiles, served_of_files, tables_of_files};
 ghost use Rattle.rs_run.specs.Refusal.{IsFaultOf, IsReadRefusal};
 ghost use Rattle.rs_run.specs.Report.{report_of};
 ghost use Rattle.rs_run.specs.Run.{IsReadStop};
@@ -82,7 +82,7 @@ pub fn run<T: Threads + Wait + Sync, O: Outlet, W: Write, R: Read + Send + Drop>
         setup,
         readers,
         options,
-        |_ends| true,
+        |_served| true,
         outlet,
         report,
     ) {
@@ -101,14 +101,14 @@ pub struct Ran {
     pub is_written: bool,
 }
 
-/// A run that asks `is_wanted` before its first dump: by how the session of each peer ended, in the order of the
-/// plan. If dumps and report are not wanted, no dump is kept, and nothing of the report is written.
+/// A run that asks `is_wanted` before its first dump: by the tables, and how the session of each peer ended. If dumps
+/// and report are not wanted, no dump is kept, and nothing of the report is written.
 pub fn run_if<
     T: Threads + Wait + Sync,
     O: Outlet,
     W: Write,
     R: Read + Send + Drop,
-    D: FnOnce(&[PeerEnd]) -> bool,
+    D: FnOnce(&Served) -> bool,
 >(
     rt: &T,
     alloc: Global,
@@ -132,12 +132,16 @@ pub fn run_if<
     ensures ends { IfOk result (λ ran.
         OverFiles R.gives options.now.errors setup.now.plan.value readers.items (λ files.
         ran.ends.items ≡ ends_of_files options.now.errors setup.now.plan.value files)) }
-    ensures wanted { IfOk result (λ ran. FnOnceReturnsAt D.FnOnce is_wanted ran.ends.items ran.is_written) }
+    ensures wanted { IfOk result (λ ran.
+        OverFiles R.gives options.now.errors setup.now.plan.value readers.items (λ files.
+        (ran.ends.items ≡ ends_of_files options.now.errors setup.now.plan.value files)
+        × FnOnceReturnsAt D.FnOnce is_wanted (served_of_files options.now.errors setup.now.plan.value files)
+        ran.is_written)) }
     ensures back { AreSameNames (O.started outlet.old) (O.started outlet.new) }
 {
     let served = serve_files(rt, alloc, &setup.plan, readers, options)?;
     let ends = ends_of(alloc, &setup.plan, &served)?;
-    if !is_wanted(&ends) {
+    if !is_wanted(&served) {
         free_apart(rt, served);
         return Ok(Ran {
             ends,

@@ -16,6 +16,7 @@ use rs_glass_shell::{
 };
 use rs_host::{WordsFault, configuration, first_unreadable, on_one_line, open_files};
 use rs_losses::Losses;
+use rs_mrt::{Bounds, Tail};
 use rs_notes::Outlines;
 use rs_query::{Destination, HistoryQuery, Span, WhyQuery};
 use rs_setup::Setup;
@@ -164,7 +165,13 @@ where
         Destination::Address(address) => {
             refuse_read_once(rt, setup, address)?;
             let prefix = host(address);
-            let outlines = Outlines::none(rt.alloc(), span.until);
+            let outlines = Outlines::none(
+                rt.alloc(),
+                Bounds {
+                    until: span.until,
+                    tail: Tail::Strict,
+                },
+            );
             let question = Question { prefix, errors };
             let reading = read(rt, setup, &question, span.losses, &outlines)?;
             longest_announced(&reading.tables, prefix).unwrap_or(prefix)

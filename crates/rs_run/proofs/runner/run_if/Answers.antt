@@ -24,7 +24,7 @@ keep_and_report-requires-clause-one_for_each g c =
     let read = c.in_ok-served.ensures.served in
     ap (λ (ends : List PeerEnd). length ends) read.2.1 ∙ length-ends c.args.options.now.errors c.args.setup.now.plan.value read.0
     (read.1.as_many ∙ c.requires.one_for_each)
-    ∙ sym (ap (λ (held : Plan). length held.peers) c.deref-3.ensures)
+    ∙ sym (ap (λ (held : Plan). length held.peers) c.deref-2.ensures)
 
 pub returns-in_err-text-clause-answer : goal.returns-in_err-text-clause-answer
 returns-in_err-text-clause-answer g c =
@@ -74,7 +74,7 @@ returns-in-Ok-clause-answer g c =
     let plan = c.args.setup.now.plan.value in
     let text = string_bytes c.in_ok-text.text in
     let told : text ≡ report_of plan served.ends served.tables =
-    c.in_ok-text.ensures.report ∙ ap (λ (held : Plan). report_of held served.ends served.tables) c.deref-3.ensures in
+    c.in_ok-text.ensures.report ∙ ap (λ (held : Plan). report_of held served.ends served.tables) c.deref-2.ensures in
     let P : List ℕ → Type 0 = λ octets. Appends (W.taken c.args.report.now) (W.taken c.write_all.new.out) octets in
     done-answers g.R.Read.gives O.kept O.failures W.taken W.failures c.args.options.now.errors plan c.args.options.now.time
     c.args.readers.items c.args.outlet.now c.keep_and_report.new.outlet c.args.report.now c.write_all.new.out served.tables served.ends
@@ -89,7 +89,7 @@ returns-in-Err-clause-answer g c =
     let plan = c.args.setup.now.plan.value in
     let text = string_bytes c.in_ok-text.text in
     let told : text ≡ report_of plan served.ends served.tables =
-    c.in_ok-text.ensures.report ∙ ap (λ (held : Plan). report_of held served.ends served.tables) c.deref-3.ensures in
+    c.in_ok-text.ensures.report ∙ ap (λ (held : Plan). report_of held served.ends served.tables) c.deref-2.ensures in
     let P : List ℕ → Type 0 = λ octets. AppendsBeginning (W.taken c.args.report.now) (W.taken c.write_all.new.out) octets in
     report-failed-answers g.R.Read.gives O.kept O.failures W.taken W.failures c.args.options.now.errors plan c.args.options.now.time
     c.args.readers.items c.args.outlet.now c.keep_and_report.new.outlet c.args.report.now c.write_all.new.out served.tables served.ends
