@@ -1,5 +1,6 @@
 -- Lemmas on definitions, for the proofs of this crate.
 pub mod AlikeLemmas
+pub mod BitLemmas
 pub mod BlockLemmas
 pub mod CoverLemmas
 pub mod SearchLemmas

@@ -41,7 +41,7 @@ module _ (ranges : List AsRange) (count asn : ℕ)
   ]
 
 -- the greater of two numbers
-greater-is : (one other : ℕ) → ord_max nat_cmp one other ≡ max one other
+pub greater-is : (one other : ℕ) → ord_max nat_cmp one other ≡ max one other
 greater-is one other = by_order (nat_cmp other one) refl
   where
     by_order : (order : Ordering) → order ≡ nat_cmp other one → cond (is_lt order) one other ≡ max one other

@@ -8,6 +8,7 @@ pub mod Laws  -- laws of them
 -- How values are kept:
 pub mod ImportView  -- import policy by its fields
 pub mod Reaches  -- ranges in order, each with how far those up to it reach
+pub mod Bits  -- numbers by bits
 pub mod Blocks  -- items in order, by the blocks of their numbers
 pub mod Nesting  -- patterns in order, each with the nearest one that covers it
 pub mod CoveringView  -- an iterator by the VRPs to come

@@ -3,7 +3,7 @@
 //! Standards: RFC 4271, section 9.1.1 (policy may find a route ineligible); RFC 6811 (validity by RPKI).
 //!
 //! Reading order:
-//! - What the lists have: `as_range` and `as_set` (AS numbers), `pattern` and `prefix_set` (prefixes), `vrp`, `vrps`
+//! - What the lists have: `as_range` and `as_set` (AS numbers, small ones by `bits`), `pattern` and `prefix_set` (prefixes), `vrp`, `vrps`
 //!   and `covering` (VRPs, and the validity of a route by them). Both sets of prefixes are searched by `nesting`, and
 //!   large ones by `blocks`.
 //! - What is asked of a route: `path` (of its AS_PATH), `filter` (the reason why it is not taken in), and `policy`.
@@ -14,6 +14,7 @@
 
 mod as_range;
 mod as_set;
+mod bits;
 mod blocks;
 mod covering;
 mod filter;

@@ -3,7 +3,7 @@ use Rattle.rs_import.specs.declared.as_range.AsRange.{AsRange}
 use Rattle.rs_import.specs.AsRanges.{is_in_ranges}
 use Rattle.rs_import.specs.Reaches.{IsReach}
 use Rattle.rs_import.proofs.ReachLemmas.{has-by_reach, has-none}
-use Rattle.rs_import.proofs.as_set.AsSet.holds.Goals as goal
+use Rattle.rs_import.proofs.as_set.AsSet.is_found.Goals as goal
 
 pub returns-then-count-gt0 : goal.returns-then-count-gt0
 returns-then-count-gt0 c =
