@@ -65,6 +65,10 @@ source_examples =
       goes_on_after = refl;
       stopped = refl;
       stopped_at_fault = refl;
+      cut_short_and_strict = refl;
+      header_cut_short_and_lenient = refl;
+      body_cut_short_and_lenient = refl;
+      read_failed_and_lenient = refl;
     }
 
 not_the_end : (n : ℕ) → ◌≡◌ {A = List ℕ} (1 ∷ 3 ∷ []) (1 ∷ take n (2 ∷ 3 ∷ [])) → ⊥

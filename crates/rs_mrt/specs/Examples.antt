@@ -13,6 +13,8 @@ use Rattle.rs_mrt.specs.Memory.{amount_within}
 use Rattle.rs_mrt.specs.Reader.{FileEnds, ReadFails, MayBeLeft, failed_reads}
 use Rattle.rs_mrt.specs.MemoryReading.{MemoryReading, Comes, after_read, amount_given}
 use Rattle.rs_mrt.specs.RecordReading.{end_within, fault_behind}
+use Rattle.rs_mrt.specs.Leniency.{end_by}
+use Rattle.rs_mrt.specs.declared.bounds.Tail.TheVariants.{Strict, Lenient}
 
 -- the fields of a session: the peer is AS 64501 at 192.0.2.11, the recorder is AS 64500 at 192.0.2.1, over IPv4
 abbrev pub session : List ℕ
@@ -76,6 +78,10 @@ pub record SourceExamples : Type 0 where
   pub goes_on_after : stopped_at (Some change) [] None ≡ None
   pub stopped : stopped_at None [] None ≡ Some (Ok false)
   pub stopped_at_fault : stopped_at None [] (Some BodyCutShort) ≡ Some (Err (Mrt BodyCutShort))
+  pub cut_short_and_strict : end_by Strict (Some (Mrt BodyCutShort)) ≡ Some (Mrt BodyCutShort)
+  pub header_cut_short_and_lenient : end_by Lenient (Some (Mrt HeaderCutShort)) ≡ None
+  pub body_cut_short_and_lenient : end_by Lenient (Some (Mrt BodyCutShort)) ≡ None
+  pub read_failed_and_lenient : end_by Lenient (Some Read) ≡ Some Read
 
 pub record WriterExamples : Type 0 where
   pub error : (failed : Failed) → failed_calls (Err failed) [] ≡ 1

@@ -4,6 +4,7 @@ pub mod Entry  -- what a record says of a session
 pub mod Fault  -- the numbers of faults
 pub mod Bounds  -- how much of a file is read
 pub mod Source  -- what a source of records may give
+pub mod Leniency  -- a source whose end may cut a record short
 pub mod Examples  -- worked examples
 -- How octets come and go:
 pub mod Reader  -- what a reader may still give

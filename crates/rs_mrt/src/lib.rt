@@ -1,10 +1,12 @@
 //! MRT records of a recording of BGP (RFC 6396): those of a file, at hand or in pieces, what a BGP4MP record says,
 //! and the header of a record that is written.
 //!
-//! Reading order: `record`, `fault`, `meaning`, `bgp4mp`, `source`; `reader`, `inlet`, `window`,
-//! `record_reader` (files in pieces); `bounds`, `bounded_reader` (a part of a file); `spelling`, `stream`; `memory`,
-//! `memory_reader`; `laws`. Standards: RFC 6396, sections 2 (header), 3 and 4.5 (BGP4MP_ET), 4.4.3 and 4.4.4 (BGP4MP
-//! with AS numbers of four octets).
+//! Reading order: `record`, `fault`, `meaning`, `bgp4mp`, `source`. How much of a file is read: `bounds`, `lenient`.
+//! Files in pieces: `reader`, `inlet`, `window`, `record_reader`; a part of one: `bounded_reader`. What is written:
+//! `spelling`, `stream`. At last `memory`, `memory_reader`; `laws`.
+//!
+//! Standards: RFC 6396, sections 2 (header), 3 and 4.5 (BGP4MP_ET), 4.4.3 and 4.4.4 (BGP4MP with AS numbers of four
+//! octets).
 #![tactic(auto)]
 
 mod bgp4mp;
@@ -13,6 +15,7 @@ mod bounds;
 mod fault;
 mod inlet;
 mod laws;
+mod lenient;
 mod meaning;
 mod memory;
 mod memory_reader;
@@ -33,6 +36,7 @@ pub use laws::{
     examples_hold, file_splits_in_one_way, front_of_a_record_says_the_same, known_octets_are_shown,
     what_is_within_bounds,
 };
+pub use lenient::Lenient;
 pub use meaning::Entry;
 pub use memory::{Limits, MemoryWriter};
 pub use memory_reader::{MemoryReader, ReadLimits};
