@@ -100,6 +100,7 @@ less_than_left : ◌≡◌ {A = List ℕ} (1 ∷ []) (1 ∷ 2 ∷ []) → ⊥
 less_than_left e = cc
 
 pub reader_examples : ReaderExamples
+unfolding records_of records_within rest_of rest_within
 reader_examples =
     record {
       error = λ failed. refl;
@@ -122,4 +123,9 @@ reader_examples =
       rest_at_a_failure = refl;
       rest_at_the_end = refl;
       no_rest = refl;
+      in_time = refl;
+      later = (refl, refl);
+      failing_in_a_later_body = refl;
+      failing_in_a_later_header = refl;
+      failing_without_a_time = refl;
     }

@@ -12,7 +12,7 @@ use Rattle.rs_mrt.specs.Stream.{failed_calls, AppendsBeginning}
 use Rattle.rs_mrt.specs.Memory.{amount_within}
 use Rattle.rs_mrt.specs.Reader.{FileEnds, ReadFails, MayBeLeft, failed_reads}
 use Rattle.rs_mrt.specs.MemoryReading.{MemoryReading, Comes, after_read, amount_given}
-use Rattle.rs_mrt.specs.RecordReading.{end_within, fault_behind}
+use Rattle.rs_mrt.specs.RecordReading.{end_read, end_within, fault_behind, records_read}
 use Rattle.rs_mrt.specs.Leniency.{end_by}
 use Rattle.rs_mrt.specs.declared.bounds.Tail.TheVariants.{Strict, Lenient}
 
@@ -125,3 +125,8 @@ pub record ReaderExamples : Type 0 where
   pub rest_at_a_failure : fault_behind ReadFails [] ≡ Some Read
   pub rest_at_the_end : fault_behind FileEnds (take 35 file) ≡ Some (Mrt BodyCutShort)
   pub no_rest : fault_behind FileEnds [] ≡ None
+  pub in_time : records_read (Some 100) file ≡ change ∷ []
+  pub later : (records_read (Some 99) file ≡ []) × (end_read (Some 99) FileEnds file ≡ None)
+  pub failing_in_a_later_body : end_read (Some 99) ReadFails (take 12 file) ≡ None
+  pub failing_in_a_later_header : end_read (Some 99) ReadFails (take 11 file) ≡ Some Read
+  pub failing_without_a_time : end_read None ReadFails (take 12 file) ≡ Some Read

@@ -8,6 +8,7 @@ use Rattle.rs_mrt.specs.declared.fault.SourceFault.TheVariants.{Mrt, Read}
 use Rattle.rs_mrt.specs.declared.stream.Failed.{Failed}
 use Rattle.rs_mrt.specs.Reader.{ReadEnd, FileEnds, ReadFails}
 use Rattle.rs_mrt.specs.Record.{MrtRecord, header_len, headed, has_record, front_record, after_record, fault_of_rest}
+use Rattle.rs_mrt.specs.Bounds.{is_later, rest_is_later}
 use Rattle.rs_mrt.specs.Entry.{front_len, front_of}
 use Rattle.rs_mrt.specs.RecordReading.{Inflow, MayArrive, RecordReading, read_limit}
 
@@ -122,40 +123,56 @@ module _ {R : Type 0} (gives : R → List ℕ → ReadEnd → Type 0) (failures 
     pub most : length piece ≤ wanted
     pub enough : IsEnough wanted (length piece) result
 
-  -- a whole record came: its front is shown, and the octets that came behind it are kept
-  pub record FindsRecord (old new : Inflow R) (before : List ℕ) (shown : Option MrtRecord)
+  -- a whole record came that isn't later: its front is shown, and the octets that came behind it are kept
+  pub record FindsRecord (until : Option ℕ) (old new : Inflow R) (before : List ℕ) (shown : Option MrtRecord)
       (held : List ℕ) : Type 0 where
     pub piece : List ℕ
     pub drawn : Draws old new piece (Ok true)
     pub stands : has_record (before ++ piece) ≡ true
+    pub in_time : is_later until (front_record (before ++ piece)) ≡ false
     pub front : shown ≡ Some (front_of (front_record (before ++ piece)))
     pub behind : held ≡ after_record (before ++ piece)
 
-  -- no whole record comes
-  pub record FindsNone (old new : Inflow R) (before after : List ℕ) (answer : Result Bool SourceFault) : Type 0 where
+  -- no whole record comes, nor the header of a later one
+  pub record FindsNone (until : Option ℕ) (old new : Inflow R) (before after : List ℕ)
+      (answer : Result Bool SourceFault) : Type 0 where
     pub piece : List ℕ
     pub end : ReadEnd
     pub failed : Failed
     pub drawn : Draws old new piece (call_at end failed)
     pub lacks : has_record (before ++ piece) ≡ false
+    pub in_time : rest_is_later until (before ++ piece) ≡ false
     pub says : answer ≡ answer_behind end (before ++ piece)
     pub fewer : length after ≤ length before + length piece
 
+  -- the header of a later record came; more octets may arrive behind it
+  pub record FindsLater (until : Option ℕ) (old new : Inflow R) (before after : List ℕ) : Type 0 where
+    pub piece : List ℕ
+    pub drawn : Draws old new piece (Ok true)
+    pub later : rest_is_later until (before ++ piece) ≡ true
+    pub fewer : length after ≤ length before + length piece
+
+  -- the records end: no more octets come, or the header of a later record came
+  abbrev pub FindsEnd : Option ℕ → Inflow R → Inflow R → List ℕ → List ℕ → Type 0
+  FindsEnd until old new before after =
+      FindsNone until old new before after (Ok false) ⊎ FindsLater until old new before after
+
   -- the next record is found in a window, or there is none
-  abbrev pub Finds : Inflow R → Inflow R → List ℕ → List ℕ → Result (Option ℕ) SourceFault → Type 0
-  Finds old new before after (Ok (Some n)) =
-      FindsRecord old new before (shown_in (Some n) after) (held_behind (Some n) after)
+  abbrev pub Finds : Option ℕ → Inflow R → Inflow R → List ℕ → List ℕ → Result (Option ℕ) SourceFault → Type 0
+  Finds until old new before after (Ok (Some n)) =
+      FindsRecord until old new before (shown_in (Some n) after) (held_behind (Some n) after)
       × (shown_len (Some n) ≤ length after)
-  Finds old new before after (Ok None) = FindsNone old new before after (Ok false)
-  Finds old new before after (Err fault) = FindsNone old new before after (Err fault)
+  Finds until old new before after (Ok None) = FindsEnd until old new before after
+  Finds until old new before after (Err fault) = FindsNone until old new before after (Err fault)
 
   -- the next record is found, or there is none and the reader of records gives its last answer
   abbrev pub GoesOn : RecordReading R → RecordReading R → Result Bool SourceFault → Type 0
   GoesOn old new (Ok true) =
-      FindsRecord old.inflow new.inflow old.held new.shown new.held × (new.stopped ≡ None)
+      FindsRecord old.until old.inflow new.inflow old.held new.shown new.held × (new.stopped ≡ None)
+      × (new.until ≡ old.until)
   GoesOn old new (Ok false) =
-      FindsNone old.inflow new.inflow old.held new.held (Ok false) × (new.shown ≡ None)
+      FindsEnd old.until old.inflow new.inflow old.held new.held × (new.shown ≡ None)
       × (new.stopped ≡ Some (Ok false))
   GoesOn old new (Err fault) =
-      FindsNone old.inflow new.inflow old.held new.held (Err fault) × (new.shown ≡ None)
+      FindsNone old.until old.inflow new.inflow old.held new.held (Err fault) × (new.shown ≡ None)
       × (new.stopped ≡ Some (Err fault))

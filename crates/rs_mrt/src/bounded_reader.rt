@@ -8,13 +8,13 @@
 ghost use Rattle.std.specs.Prelude.{◌≡◌, ◌+◌, ◌<◌, ◌≤◌, ◌++◌, [], false, IfOk, OnErr, OnOk, length, take, drop, min};
 ghost use Rattle.std.specs.Prelude.{nat_lt, true, None};
 ghost use Rattle.byteorder.specs.Endian.{big_number};
-ghost use Rattle.rs_mrt.specs.Bounds.{are_open, is_later, is_time_later};
+ghost use Rattle.rs_mrt.specs.Bounds.{are_open, is_later};
 ghost use Rattle.rs_mrt.specs.Bounded.{MayGive, something_may_be_given, unbegun};
 ghost use Rattle.rs_mrt.specs.Clearing.{Clears, Collects, EndsAtRest, GoesOn, calls_failed, front_len};
 ghost use Rattle.rs_mrt.specs.Inflow.{IsEnough};
 ghost use Rattle.rs_mrt.specs.Record.{front_record, has_record};
 
-use crate::bounds::{Bounds, Tail};
+use crate::bounds::{Bounds, Tail, is_later};
 use crate::reader::Read;
 use crate::record::{HEADER_LEN, LENGTH_AT};
 use crate::stream::Failed;
@@ -238,16 +238,6 @@ impl<R: Read> Read for BoundedReader<R> {
         }
         self.go_on()?;
         Ok(self.give(into))
-    }
-}
-
-// Whether a Timestamp is later than a time.
-fn is_later(until: Option<u32>, timestamp: u32) -> bool
-    ensures { result ≡ is_time_later until timestamp }
-{
-    match until {
-        Some(time) => timestamp > time,
-        None => false,
     }
 }
 

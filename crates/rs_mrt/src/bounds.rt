@@ -2,7 +2,7 @@
 
 ghost use Rattle.std.specs.Prelude.{◌≡◌};
 ghost use Rattle.rs_mrt.specs.declared.bounds.Tail.TheVariants.{Strict};
-ghost use Rattle.rs_mrt.specs.Bounds.{are_open};
+ghost use Rattle.rs_mrt.specs.Bounds.{are_open, is_time_later};
 
 /// What becomes of a record that the end of a file cuts short (RFC 6396, section 2).
 #[derive(Clone, Copy, Debug, PartialEq, Eq, Drop)]
@@ -45,5 +45,15 @@ impl Bounds {
                 tail: Tail::Strict
             }
         )
+    }
+}
+
+// Whether a Timestamp is later than a time.
+pub(crate) fn is_later(until: Option<u32>, timestamp: u32) -> bool
+    ensures { result ≡ is_time_later until timestamp }
+{
+    match until {
+        Some(time) => timestamp > time,
+        None => false,
     }
 }

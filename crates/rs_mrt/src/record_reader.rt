@@ -1,15 +1,19 @@
 //! The records of a file that comes in pieces, through any reader (RFC 6396, section 2).
 //!
 //! Our choices: of a body no more than its first 4,121 octets are shown, and only once the whole body came. Every error
-//! of a read ends the records, and the read isn't tried again. No more than 2^50 octets are taken.
+//! of a read ends the records, and the read isn't tried again. No more than 2^50 octets are taken. If there is a time,
+//! the records end before the first one that is later. Nothing behind the header of that record is asked for.
 
-ghost use Rattle.std.specs.Prelude.{◌≡◌, ◌+◌, ◌^◌, ◌<◌, ◌≤◌, length};
+ghost use Rattle.std.specs.Prelude.{◌≡◌, ◌+◌, ◌^◌, ◌<◌, ◌≤◌, length, true};
 ghost use Rattle.rs_mrt.specs.Record.{octets_of};
-ghost use Rattle.rs_mrt.specs.RecordReading.{unread, MayCome, StaysStopped, room_left, read_limit, something_comes};
+ghost use Rattle.rs_mrt.specs.Bounds.{rest_is_later};
+ghost use Rattle.rs_mrt.specs.RecordReading.{unread, unread_until, MayCome, StaysStopped, room_left, read_limit};
+ghost use Rattle.rs_mrt.specs.RecordReading.{something_comes};
 ghost use Rattle.rs_mrt.specs.Source.{Advances, CountsFailure, Stays, Stops};
 ghost use Rattle.rs_mrt.specs.Inflow.{Finds, GoesOn};
 
 use crate::bgp4mp::FRONT_LEN;
+use crate::bounds::is_later;
 use crate::fault::{MrtFault, SourceFault};
 use crate::inlet::Inlet;
 use crate::reader::Read;
@@ -25,6 +29,8 @@ use std::marker::Model;
 pub struct RecordReader<R: Read> {
     inlet: Inlet<R>,
     window: Window,
+    // The time, in seconds since 1970: the records end before the first one that is later.
+    until: Option<u32>,
     // How many octets of its body are shown of the record that stands at the front of the window.
     shown: Option<usize>,
     // The answer that it repeats from now on, after an end or a fault.
@@ -39,6 +45,7 @@ impl<R: Read> Model for RecordReader<R> {
 
     ghost view = { λ r. record {
       inflow = r.inlet;
+      until = r.until;
       held = held_behind r.shown r.window;
       shown = shown_in r.shown r.window;
       stopped = r.stopped;
@@ -53,9 +60,20 @@ impl<R: Read> RecordReader<R> {
         requires { R.failures reader < u64.MAX }
         ensures { result ≡ unread reader }
     {
+        RecordReader::up_to(reader, None)
+    }
+
+    /// Begins with the first octet that the reader gives. The records end before the first one that is later than the
+    /// time, in seconds since 1970; microseconds don't count. Without a time none is later. Behind the header of a
+    /// later record nothing is asked for, so its body isn't waited for.
+    pub fn up_to(reader: R, until: Option<u32>) -> RecordReader<R>
+        requires { R.failures reader < u64.MAX }
+        ensures { result ≡ unread_until until reader }
+    {
         RecordReader {
             inlet: Inlet::new(reader),
             window: Window::new(),
+            until,
             shown: None,
             stopped: None,
         }
@@ -75,9 +93,11 @@ impl<R: Read> RecordReader<R> {
     fn go_on(&mut self) -> Result<bool, SourceFault>
         requires asks { self.old.stopped ≡ None }
         requires shown { self.old.shown ≡ None }
-        ensures { GoesOn R.gives R.failures self.old self.new result }
+        ensures goes_on { GoesOn R.gives R.failures self.old self.new result }
+        ensures at_later { rest_is_later self.old.until self.old.held ≡ true
+            → self.new.inflow.reader ≡ self.old.inflow.reader }
     {
-        let answer = match find_front(&mut self.inlet, &mut self.window) {
+        let answer = match find_front(&mut self.inlet, &mut self.window, self.until) {
             Ok(Some(len)) => {
                 self.shown = Some(len);
                 return Ok(true);
@@ -120,6 +140,9 @@ impl<R: Read> Source for RecordReader<R> {
         ensures asks_no_more { StaysStopped self.old self.new result }
         // Nor is it once 2^50 octets came.
         ensures at_limit { self.old.inflow.came ≡ read_limit → self.new.inflow.reader ≡ self.old.inflow.reader }
+        // Nor is it once the header of a record is at hand that is later than the time.
+        ensures at_later { rest_is_later self.old.until self.old.held ≡ true
+            → self.new.inflow.reader ≡ self.old.inflow.reader }
     {
         if let Some(answer) = self.stopped {
             return answer;
@@ -136,15 +159,18 @@ impl<R: Read> Source for RecordReader<R> {
 }
 
 // Reads until a record stands at the front of the window and its whole body came. Answers how many octets of the body
-// stand there; none at the end of the file.
+// stand there; none at the end of the file. It answers none too, and reads no further, if a later record's header
+// stands there.
 fn find_front<R: Read>(
     inlet: &mut Inlet<R>,
     window: &mut Window,
+    until: Option<u32>,
 ) -> Result<Option<usize>, SourceFault>
     requires limit { inlet.old.came ≤ read_limit }
     requires failures { R.failures inlet.old.reader < u64.MAX }
-    ensures finds { Finds R.gives R.failures inlet.old inlet.new window.old window.new result }
+    ensures finds { Finds R.gives R.failures until inlet.old inlet.new window.old window.new result }
     ensures room { length window.new ≤ WINDOW_LEN }
+    ensures at_later { rest_is_later until window.old ≡ true → inlet.new.reader ≡ inlet.old.reader }
 {
     if !window.fill(inlet, HEADER_LEN)? {
         if window.octets().is_empty() {
@@ -152,7 +178,11 @@ fn find_front<R: Read>(
         }
         return Err(SourceFault::Mrt(MrtFault::HeaderCutShort));
     }
-    let length = BigEndian::read_u32(&window.octets()[LENGTH_AT..]) as usize;
+    let header = window.octets();
+    if is_later(until, BigEndian::read_u32(header)) {
+        return Ok(None);
+    }
+    let length = BigEndian::read_u32(&header[LENGTH_AT..]) as usize;
     let front = length.min(FRONT_LEN);
     if !window.fill(inlet, HEADER_LEN + front)? {
         return Err(SourceFault::Mrt(MrtFault::BodyCutShort));

@@ -86,6 +86,8 @@ impl Window {
         ensures fills { Fills R.gives R.failures inlet.old inlet.new self.old self.new result }
         ensures enough { IsEnough wanted (length self.new) result }
         ensures room { length self.new ≤ WINDOW_LEN }
+        // It doesn't read if they are at hand.
+        ensures at_hand { wanted ≤ length self.old → inlet.new.reader ≡ inlet.old.reader }
     {
         while self.octets().len() < wanted {
             if !self.extend(inlet)? {

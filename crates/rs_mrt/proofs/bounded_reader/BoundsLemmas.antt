@@ -1,21 +1,21 @@
 -- What is within bounds of a file, one record at a time: for HeldLemmas and GoesOnLemmas.
-use Rattle.std.proofs.Common.{◌≡◌, ℕ, ◌+◌, ◌≤◌, true, false, Bool, ◌||◌, List, [], ◌∷◌, ◌++◌, length, take, drop, Option, Some, ap, sym}
+use Rattle.std.proofs.Common.{◌≡◌, ℕ, ◌+◌, ◌≤◌, true, false, List, [], ◌++◌, length, take, drop, Option, Some, ap, sym}
 use Rattle.std.proofs.Common.{◌∙◌, arith, inl, inr}
-use Rattle.std.specs.Prelude.{nat_le, not, take_while}
-use Rattle.std.specs.List.{list_any}
-use Rattle.std.proofs.lemmas.Bool.{cases_Bool, cond-true, cond-false, le-leb, leb-true}
+use Rattle.std.specs.Prelude.{take_while}
+use Rattle.std.proofs.lemmas.Bool.{cases_Bool, cond-true, cond-false}
 use Rattle.std.proofs.lemmas.List.{drop-drop, length-take, length-drop, take-append-drop}
-use Rattle.std.proofs.lemmas.List.Sums.{take_while-cons, sum_by-cons}
+use Rattle.std.proofs.lemmas.List.Sums.{sum_by-cons}
 use Rattle.std.proofs.Math.Seq.{take-add}
 use Rattle.byteorder.specs.Endian.{big_number}
 use Rattle.rs_mrt.specs.declared.bounds.Bounds.{Bounds}
 use Rattle.rs_mrt.specs.declared.bounds.Tail.{Tail}
 use Rattle.rs_mrt.specs.declared.bounds.Tail.TheVariants.{Strict, Lenient}
-use Rattle.rs_mrt.specs.Record.{MrtRecord, header_len, has_record, front_record, after_record, length_field, records_of, rest_of, octets_of}
-use Rattle.rs_mrt.specs.Bounds.{is_later, is_in_time, is_time_later, records_until, rest_is_later, has_later, octets_in, whole_until}
+use Rattle.rs_mrt.specs.Record.{MrtRecord, has_record, front_record, after_record, length_field, octets_of}
+use Rattle.rs_mrt.specs.Bounds.{is_later, is_in_time, is_time_later, records_until, has_later, octets_in, whole_until}
 use Rattle.rs_mrt.specs.Bounds.{part_read, within}
 use Rattle.rs_mrt.specs.Clearing.{last_ready}
-use Rattle.rs_mrt.proofs.record.RecordLemmas.{has_record-long, records_of-step, records_of-none, rest_of-step, rest_of-none}
+use Rattle.rs_mrt.proofs.record.RecordLemmas.{has_record-long, records_of-none}
+use Rattle.rs_mrt.proofs.record_reader.UntilLemmas.{later-front, later-step, records-step, rest-not-later}
 
 -- ---- a whole record at the front that isn't later
 
@@ -30,16 +30,11 @@ after-front octets = drop-drop (length_field octets) 12 octets
 
 module _ (until : Option ℕ) (octets : List ℕ) (stands : has_record octets ≡ true) (in_time : is_later until (front_record octets) ≡ false)
   where
-    pub records-step : records_until until octets ≡ front_record octets ∷ records_until until (after_record octets)
-    records-step =
-        ap (take_while (is_in_time until)) (records_of-step octets stands)
-        ∙ take_while-cons (is_in_time until) (front_record octets) (records_of (after_record octets))
-        ∙ cond-true _ _ _ (ap not in_time)
-
     octets-step : octets_in (records_until until octets) ≡ 12 + length_field octets + octets_in (records_until until (after_record octets))
     octets-step =
         let each : MrtRecord → ℕ = λ r. octets_of (Some r) in
-        ap octets_in records-step ∙ sum_by-cons each (front_record octets) (records_until until (after_record octets))
+        ap octets_in (records-step until octets stands in_time)
+        ∙ sum_by-cons each (front_record octets) (records_until until (after_record octets))
         ∙ ap (λ (n : ℕ). n + octets_in (records_until until (after_record octets))) (octets-front octets stands)
 
     whole-step : whole_until until octets ≡ take (12 + length_field octets) octets ++ whole_until until (after_record octets)
@@ -49,24 +44,15 @@ module _ (until : Option ℕ) (octets : List ℕ) (stands : has_record octets �
         ap (λ (k : ℕ). take k octets) octets-step ∙ take-add n m octets
         ∙ ap (λ (z : List ℕ). take n octets ++ take m z) (sym (after-front octets))
 
-    pub later-step : has_later until octets ≡ has_later until (after_record octets)
-    later-step =
-        let rest = ap (rest_is_later until) (rest_of-step octets stands) in
-        let any : list_any (is_later until) (records_of octets) ≡ list_any (is_later until) (records_of (after_record octets)) =
-        ap (list_any (is_later until)) (records_of-step octets stands)
-        ∙ ap (λ (b : Bool). b || list_any (is_later until) (records_of (after_record octets))) in_time in
-        ap (λ (b : Bool). b || rest_is_later until (rest_of octets)) any
-        ∙ ap (λ (b : Bool). list_any (is_later until) (records_of (after_record octets)) || b) rest
-
     part-step : (tail : Tail) → part_read until tail octets ≡ take (12 + length_field octets) octets
         ++ part_read until tail (after_record octets)
     part-step Lenient = whole-step
     part-step Strict =
         elim (cases_Bool (has_later until (after_record octets))) [
-          | inl later ↦ cond-true _ _ _ (later-step ∙ later) ∙ whole-step
+          | inl later ↦ cond-true _ _ _ (later-step until octets stands in_time ∙ later) ∙ whole-step
               ∙ ap (λ (z : List ℕ). take (12 + length_field octets) octets ++ z) (sym (cond-true _ _ _ later))
           | inr none ↦
-              (cond-false _ _ _ (later-step ∙ none) ∙ sym (take-append-drop (12 + length_field octets) octets)
+              (cond-false _ _ _ (later-step until octets stands in_time ∙ none) ∙ sym (take-append-drop (12 + length_field octets) octets)
               ∙ ap (λ (z : List ℕ). take (12 + length_field octets) octets ++ z) (sym (after-front octets) ∙ sym (cond-false _ _ _ none)))
         ]
 
@@ -75,28 +61,6 @@ pub within-step : (bounds : Bounds) (octets : List ℕ) → has_record octets �
 within-step bounds octets stands in_time = part-step bounds.until octets stands in_time bounds.tail
 
 -- ---- a later record at the front, whole or cut short
-
-pub later-front : (until : Option ℕ) (octets : List ℕ) → 12 ≤ length octets → is_time_later until (big_number 4 octets) ≡ true
-    → (records_until until octets ≡ []) × (has_later until octets ≡ true)
-later-front until octets long later =
-    elim (cases_Bool (has_record octets)) [
-      | inl stands ↦
-          (let any : list_any (is_later until) (records_of octets) ≡ true =
-          ap (list_any (is_later until)) (records_of-step octets stands)
-          ∙ ap (λ (b : Bool). b || list_any (is_later until) (records_of (after_record octets))) later in (
-            ap (take_while (is_in_time until)) (records_of-step octets stands)
-                ∙ take_while-cons (is_in_time until) (front_record octets) (records_of (after_record octets))
-                ∙ cond-false _ _ _ (ap not later),
-            ap (λ (b : Bool). b || rest_is_later until (rest_of octets)) any,
-          ))
-      | inr lacks ↦
-          (let rest : rest_is_later until octets ≡ true = cc (le-leb 12 (length octets) long, later) in (
-            ap (take_while (is_in_time until)) (records_of-none octets lacks),
-            ap (λ (b : Bool). b || rest_is_later until (rest_of octets)) (ap (list_any (is_later until)) (records_of-none octets lacks))
-                ∙ ap (rest_is_later until) (rest_of-none octets lacks)
-                ∙ rest,
-          ))
-    ]
 
 pub within-later : (bounds : Bounds) (octets : List ℕ) → 12 ≤ length octets → is_time_later bounds.until (big_number 4 octets) ≡ true
     → within bounds octets ≡ []
@@ -113,20 +77,6 @@ within-later bounds octets long later = part bounds.tail
     part Strict = cond-true _ _ _ found.1 ∙ none
 
 -- ---- no whole record at the front, and no later one
-
-rest-in-time : (until : Option ℕ) (octets : List ℕ) → (12 ≤ length octets → is_time_later until (big_number 4 octets) ≡ false)
-    → rest_is_later until octets ≡ false
-rest-in-time until octets in_time =
-    elim (cases_Bool (nat_le header_len (length octets))) [
-      | inl long ↦ cc (long, in_time (leb-true 12 (length octets) long))
-      | inr short ↦ cc short
-    ]
-
-pub rest-not-later : (until : Option ℕ) (octets : List ℕ) → has_record octets ≡ false
-    → (12 ≤ length octets → is_time_later until (big_number 4 octets) ≡ false) → has_later until octets ≡ false
-rest-not-later until octets lacks in_time =
-    ap (λ (rs : List MrtRecord). list_any (is_later until) rs || rest_is_later until (rest_of octets)) (records_of-none octets lacks)
-    ∙ ap (rest_is_later until) (rest_of-none octets lacks) ∙ rest-in-time until octets in_time
 
 pub within-rest : (bounds : Bounds) (octets : List ℕ) → has_record octets ≡ false
     → (12 ≤ length octets → is_time_later bounds.until (big_number 4 octets) ≡ false)

@@ -13,7 +13,8 @@ use Rattle.rs_mrt.specs.Bounds.{has_later, is_in_time, is_time_later, within, ar
 use Rattle.rs_mrt.specs.Bounded.{Bounded, ComesBehind, ComesOf, ComesUnlessEnded, GivenWithin, MayGive, MayGiveIf}
 use Rattle.rs_mrt.specs.Clearing.{Clears, Collects, EndsAtRest, GoesOn, calls_failed, front_len, last_ready}
 use Rattle.rs_mrt.proofs.record_reader.FrontLemmas.{has_record-cut, has_record-from}
-use Rattle.rs_mrt.proofs.bounded_reader.BoundsLemmas.{later-front, within-later, within-rest}
+use Rattle.rs_mrt.proofs.record_reader.UntilLemmas.{later-front}
+use Rattle.rs_mrt.proofs.bounded_reader.BoundsLemmas.{within-later, within-rest}
 
 -- nothing is ready
 pub nothing-ready : (octets : List ℕ) → nat_lt 0 (length octets) ≡ false → octets ≡ []

@@ -14,7 +14,8 @@ use Rattle.rs_mrt.specs.Bounded.{Bounded, GivenWithin}
 use Rattle.rs_mrt.specs.Clearing.{CameBetween, Clears, Collects, Counts, calls_failed, front_len}
 use Rattle.rs_mrt.proofs.record.RecordLemmas.{has_record-long}
 use Rattle.rs_mrt.proofs.record_reader.FrontLemmas.{has_record-append, front_record-append, length_field-append}
-use Rattle.rs_mrt.proofs.bounded_reader.BoundsLemmas.{after-front, later-step, within-step}
+use Rattle.rs_mrt.proofs.record_reader.UntilLemmas.{later-step}
+use Rattle.rs_mrt.proofs.bounded_reader.BoundsLemmas.{after-front, within-step}
 
 -- ---- octets that are ready
 

@@ -20,8 +20,8 @@ use Rattle.rs_mrt.proofs.record.RecordLemmas.{has_record-long, after_record-shor
 use Rattle.rs_mrt.proofs.record.RecordLemmas.{rest_of-none}
 use Rattle.rs_mrt.proofs.record_reader.FrontLemmas.{has_record-append, front_record-append, after_record-append, length_field-append}
 use Rattle.rs_mrt.proofs.record_reader.FrontLemmas.{has_record-from}
-use Rattle.rs_mrt.proofs.bounded_reader.BoundsLemmas.{after-front, later-step, later-front, records-step, rest-not-later, within-later}
-use Rattle.rs_mrt.proofs.bounded_reader.BoundsLemmas.{within-rest, within-step}
+use Rattle.rs_mrt.proofs.record_reader.UntilLemmas.{later-front, later-step, records-step, rest-not-later}
+use Rattle.rs_mrt.proofs.bounded_reader.BoundsLemmas.{after-front, within-later, within-rest, within-step}
 
 -- the octets of the record at the front alone
 module _ (octets : List ℕ) (stands : has_record octets ≡ true) where

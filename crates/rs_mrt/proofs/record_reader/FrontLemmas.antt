@@ -1,7 +1,7 @@
 -- What a window that holds the front of a record says of the record, and what a reader of records shows.
--- For `known_octets_are_shown` of laws.rt, FindLemmas and AdvanceLemmas.
+-- For `known_octets_are_shown` and `known_octets_are_shown_up_to` of laws.rt, FindLemmas and AdvanceLemmas.
 use Rattle.std.proofs.Common.{◌≡◌, ℕ, ◌+◌, ◌-◌, ◌≤◌, ◌<◌, min, List, [], ◌∷◌, ◌++◌, length, take, drop, map, Option, Some, Result, Bool}
-use Rattle.std.proofs.Common.{true, false, refl, sym, ap, subst, ◌∙◌, append_assoc, arith, inl, inr, length-append}
+use Rattle.std.proofs.Common.{None, true, false, refl, sym, ap, subst, ◌∙◌, append_assoc, arith, inl, inr, length-append}
 use Rattle.std.specs.Prelude.{nat_lt, if◌then◌else◌}
 use Rattle.std.specs.Option.{option_map}
 use Rattle.std.proofs.lemmas.Bool.{lt-ltb, le-ltb, le-leb, and_from, cases_lt}
@@ -14,14 +14,17 @@ use Rattle.rs_mrt.specs.declared.fault.MrtFault.TheVariants.{HeaderCutShort, Bod
 use Rattle.rs_mrt.specs.declared.fault.SourceFault.{SourceFault}
 use Rattle.rs_mrt.specs.declared.fault.SourceFault.TheVariants.{Mrt}
 use Rattle.rs_mrt.specs.declared.stream.Failed.{Failed}
-use Rattle.rs_mrt.specs.Reader.{ReadEnd, FileEnds, ReadFails}
-use Rattle.rs_mrt.specs.Record.{MrtRecord, headed, has_record, front_record, after_record, length_field, records_of, end_of, rest_of}
+use Rattle.rs_mrt.specs.Reader.{ReadEnd, FileEnds, ReadFails, SomethingIsGiven}
+use Rattle.rs_mrt.specs.Record.{MrtRecord, headed, has_record, front_record, after_record, length_field, records_of, end_of}
 use Rattle.rs_mrt.specs.Record.{fault_of_rest}
 use Rattle.rs_mrt.specs.Entry.{front_len, front_of}
 use Rattle.rs_mrt.specs.Source.{source_end}
-use Rattle.rs_mrt.specs.RecordReading.{Inflow, MayArrive, MayBeShown, MayCome, fault_behind, read_limit, unread, fault_of}
-use Rattle.rs_mrt.specs.Inflow.{Draws, FindsRecord, FindsNone, answer_behind, answer_at, call_at, shown_in, held_behind}
-use Rattle.rs_mrt.proofs.record.RecordLemmas.{has_record-long, records_of-step, records_of-none, rest_of-step, rest_of-none}
+use Rattle.rs_mrt.specs.Bounds.{is_later}
+use Rattle.rs_mrt.specs.RecordReading.{Inflow, MayArrive, MayBeShown, MayCome, fault_behind, read_limit, unread, unread_until, fault_of}
+use Rattle.rs_mrt.specs.RecordReading.{end_within, records_read, end_read}
+use Rattle.rs_mrt.specs.Inflow.{Draws, FindsRecord, FindsNone, FindsLater, answer_behind, answer_at, call_at, shown_in, held_behind}
+use Rattle.rs_mrt.proofs.record.RecordLemmas.{has_record-long}
+use Rattle.rs_mrt.proofs.record_reader.UntilLemmas.{read-step, end-step, read-later, later-behind, read-none, end-none}
 
 -- ---- octets behind a header change nothing in it
 
@@ -160,25 +163,44 @@ module _ {R : Type 0} (gives : R → List ℕ → ReadEnd → Type 0) (failures 
   ends-now old new piece ReadFails failed drawn = drawn.behind
 
   -- no record may be all that is shown
-  pub none_shown : (old new : Inflow R) (before after : List ℕ) (answer : Result Bool SourceFault)
-      → FindsNone gives failures old new before after answer
-      → MayBeShown (MayArrive gives old) before [] (fault_of answer)
-  none_shown old new before after answer none =
+  pub none_shown : (until : Option ℕ) (old new : Inflow R) (before after : List ℕ) (answer : Result Bool SourceFault)
+      → FindsNone gives failures until old new before after answer
+      → MayBeShown until (MayArrive gives old) before [] (fault_of answer)
+  none_shown until old new before after answer none =
       let whole = before ++ none.piece in
       record {
         octets = none.piece;
         end = none.end;
         come = ends-now old new none.piece none.end none.failed none.drawn;
-        fronts = ap (map front_of) (sym (records_of-none whole none.lacks));
+        fronts = ap (map front_of) (sym (read-none until whole none.lacks));
         ends = ap fault_of none.says ∙ fault_behind-answer none.end whole
-            ∙ ap (fault_behind none.end) (sym (rest_of-none whole none.lacks));
+            ∙ sym (end-none until none.end whole none.lacks none.in_time);
+      }
+
+  -- nor before a later record, whatever comes behind its header
+  pub later_shown : (until : Option ℕ) (old new : Inflow R) (before after : List ℕ) → SomethingIsGiven (gives new.reader)
+      → FindsLater gives failures until old new before after → MayBeShown until (MayArrive gives old) before [] None
+  later_shown until old new before after some found =
+      let octets = take (read_limit - new.came) some.0 in
+      let end = end_within (read_limit - new.came) some.0 some.1 in
+      let come : MayArrive gives new octets end = record { all = some.0; last = some.1; given = some.2; cut = refl; ends = refl } in
+      let whole = before ++ found.piece in
+      let all : before ++ (found.piece ++ octets) ≡ whole ++ octets = sym (append_assoc before found.piece octets) in
+      let nothing = read-later until end (whole ++ octets) (later-behind until whole octets found.later) in
+      record {
+        octets = found.piece ++ octets;
+        end = end;
+        come = found.drawn.behind octets end come;
+        fronts = sym (ap (λ (z : List ℕ). map front_of (records_read until z)) all ∙ ap (map front_of) nothing.0);
+        ends = sym (ap (end_read until end) all ∙ nothing.1);
       }
 
   -- a record that is shown may come before those that may come after it
-  pub one_shown : (old new : Inflow R) (before held : List ℕ) (r : MrtRecord) → FindsRecord gives failures old new before (Some r) held
-      → (later : List MrtRecord) (fault : Option SourceFault) → MayBeShown (MayArrive gives new) held later fault
-      → MayBeShown (MayArrive gives old) before (r ∷ later) fault
-  one_shown old new before held r found later fault may =
+  pub one_shown : (until : Option ℕ) (old new : Inflow R) (before held : List ℕ) (r : MrtRecord)
+      → FindsRecord gives failures until old new before (Some r) held
+      → (later : List MrtRecord) (fault : Option SourceFault) → MayBeShown until (MayArrive gives new) held later fault
+      → MayBeShown until (MayArrive gives old) before (r ∷ later) fault
+  one_shown until old new before held r found later fault may =
       let whole = before ++ found.piece in
       let front : r ≡ front_of (front_record whole) = let e = found.front in cc in
       let all : before ++ (found.piece ++ may.octets) ≡ whole ++ may.octets = sym (append_assoc before found.piece may.octets) in
@@ -187,31 +209,39 @@ module _ {R : Type 0} (gives : R → List ℕ → ReadEnd → Type 0) (failures 
       after_record-append whole may.octets found.stands ∙ ap (λ (z : List ℕ). z ++ may.octets) (sym found.behind) in
       let first : front_of (front_record (whole ++ may.octets)) ≡ r =
       ap front_of (front_record-append whole may.octets found.stands) ∙ sym front in
-      let records : map front_of (records_of (whole ++ may.octets)) ≡ r ∷ later =
-      rw (records_of-step (whole ++ may.octets) stands, first, after) (ap (λ (rs : List MrtRecord). r ∷ rs) (sym may.fronts)) in
-      let rest : rest_of (whole ++ may.octets) ≡ rest_of (held ++ may.octets) =
-      rest_of-step (whole ++ may.octets) stands ∙ ap rest_of after in
+      let in_time : is_later until (front_record (whole ++ may.octets)) ≡ false =
+      ap (is_later until) (front_record-append whole may.octets found.stands) ∙ found.in_time in
+      let records : map front_of (records_read until (whole ++ may.octets)) ≡ r ∷ later =
+      rw (read-step until (whole ++ may.octets) stands in_time, first, after) (ap (λ (rs : List MrtRecord). r ∷ rs) (sym may.fronts)) in
+      let end : end_read until may.end (whole ++ may.octets) ≡ end_read until may.end (held ++ may.octets) =
+      end-step until may.end (whole ++ may.octets) stands in_time ∙ ap (end_read until may.end) after in
       record {
         octets = found.piece ++ may.octets;
         end = may.end;
         come = found.drawn.behind may.octets may.end may.come;
-        fronts = sym records ∙ ap (λ (z : List ℕ). map front_of (records_of z)) (sym all);
-        ends = may.ends ∙ ap (fault_behind may.end) (sym rest) ∙ ap (λ (z : List ℕ). fault_behind may.end (rest_of z)) (sym all);
+        fronts = sym records ∙ ap (λ (z : List ℕ). map front_of (records_read until z)) (sym all);
+        ends = may.ends ∙ sym end ∙ ap (end_read until may.end) (sym all);
       }
 
   -- octets that are known are shown
-  pub known_shown : (reader : R) (file : List ℕ) → ((octets : List ℕ) (end : ReadEnd) → gives reader octets end → (octets ≡ file)
-      × (end ≡ FileEnds)) → length file < read_limit
-      → (records : List MrtRecord) (fault : Option SourceFault) → MayCome gives (unread reader) records fault
-      → (records ≡ map front_of (records_of file)) × (fault ≡ source_end (end_of file))
-  known_shown reader file only fits records fault may =
+  pub known_read : (until : Option ℕ) (reader : R) (file : List ℕ) → ((octets : List ℕ) (end : ReadEnd) → gives reader octets end
+      → (octets ≡ file) × (end ≡ FileEnds)) → length file < read_limit
+      → (records : List MrtRecord) (fault : Option SourceFault) → MayCome gives (unread_until until reader) records fault
+      → (records ≡ map front_of (records_read until file)) × (fault ≡ end_read until FileEnds file)
+  known_read until reader file only fits records fault may =
       let come = may.come in
       let same = only come.all come.last come.given in
       let most = read_limit - 0 in
       let octets : may.octets ≡ file = come.cut ∙ ap (take most) same.0 ∙ take_all most file (omega arith) in
       let below : nat_lt (length come.all) most ≡ true = lt-ltb (length come.all) most (omega (arith, ap length same.0)) in
       let end : may.end ≡ FileEnds = come.ends ∙ ap (λ (b : Bool). if b then come.last else ReadFails) below ∙ same.1 in (
-        may.fronts ∙ ap (λ (z : List ℕ). map front_of (records_of z)) octets,
+        may.fronts ∙ ap (λ (z : List ℕ). map front_of (records_read until z)) octets,
         may.ends
-            ∙ ap (λ (e : ReadEnd). fault_behind e (rest_of may.octets)) end ∙ ap (λ (z : List ℕ). source_end (end_of z)) octets,
+            ∙ ap (λ (e : ReadEnd). end_read until e may.octets) end ∙ ap (end_read until FileEnds) octets,
       )
+
+  pub known_shown : (reader : R) (file : List ℕ) → ((octets : List ℕ) (end : ReadEnd) → gives reader octets end → (octets ≡ file)
+      × (end ≡ FileEnds)) → length file < read_limit
+      → (records : List MrtRecord) (fault : Option SourceFault) → MayCome gives (unread reader) records fault
+      → (records ≡ map front_of (records_of file)) × (fault ≡ source_end (end_of file))
+  known_shown reader file only fits records fault may = known_read None reader file only fits records fault may

@@ -8,16 +8,17 @@ returns-clause-records g c =
     let R = g.R.Read in
     let asks : c.args.self.now.stopped ≡ None = sym (ap (λ r. r.stopped) c.self.view_is) ∙ c.in_default.is in
     goes-advances R.gives R.failures c.args.self.now c.go_on.new.self c.go_on.result asks
-    (subst (λ r. GoesOn R.gives R.failures r c.go_on.new.self c.go_on.result) c.drop_shown.ensures c.go_on.ensures)
+    (g.met.R.Read.may_come c.go_on.new.self.inflow.reader)
+    (subst (λ r. GoesOn R.gives R.failures r c.go_on.new.self c.go_on.result) c.drop_shown.ensures c.go_on.ensures.goes_on)
 
 pub returns-clause-room : goal.returns-clause-room
 returns-clause-room g c =
     let R = g.R.Read in
     goes-room R.gives R.failures (record c.args.self.now { shown = None }) c.go_on.new.self c.go_on.result
-    (subst (λ r. GoesOn R.gives R.failures r c.go_on.new.self c.go_on.result) c.drop_shown.ensures c.go_on.ensures)
+    (subst (λ r. GoesOn R.gives R.failures r c.go_on.new.self c.go_on.result) c.drop_shown.ensures c.go_on.ensures.goes_on)
 
 pub returns-clause-at_limit : goal.returns-clause-at_limit
 returns-clause-at_limit g c =
     let R = g.R.Read in
     goes-limit R.gives R.failures (record c.args.self.now { shown = None }) c.go_on.new.self c.go_on.result
-    (subst (λ r. GoesOn R.gives R.failures r c.go_on.new.self c.go_on.result) c.drop_shown.ensures c.go_on.ensures)
+    (subst (λ r. GoesOn R.gives R.failures r c.go_on.new.self c.go_on.result) c.drop_shown.ensures c.go_on.ensures.goes_on)
