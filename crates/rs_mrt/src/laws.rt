@@ -1,14 +1,15 @@
 //! What holds of the definitions. Each law is the contract of a function that does nothing.
 
-ghost use Rattle.std.specs.Prelude.{◌≡◌, ◌<◌, ℕ, List, Option, length, map};
+ghost use Rattle.std.specs.Prelude.{◌≡◌, ◌<◌, ℕ, List, Option, None, Some, length, map, if◌then◌else◌};
 ghost use Rattle.rs_mrt.specs.Entry.{FrontSaysTheSame, front_len, front_of};
 ghost use Rattle.rs_mrt.specs.Examples.{RecordExamples, EntryExamples, SourceExamples, WriterExamples, ReaderExamples};
 ghost use Rattle.rs_mrt.specs.Reader.{ReadEnd, FileEnds};
 ghost use Rattle.rs_mrt.specs.Record.{MrtRecord, SplitIsFound, SplitIsTheOnlyOne, end_of, records_of};
-ghost use Rattle.rs_mrt.specs.RecordReading.{MayCome, read_limit, unread};
+ghost use Rattle.rs_mrt.specs.RecordReading.{MayCome, read_limit, unread, unread_until};
 ghost use Rattle.rs_mrt.specs.Source.{source_end};
 ghost use Rattle.rs_mrt.specs.declared.fault.SourceFault.{SourceFault};
 ghost use Rattle.rs_mrt.specs.Bounds.{EndIsThatWithin, IsBeginning, OpenBoundsLeaveAll, RecordsAreThoseUntil};
+ghost use Rattle.rs_mrt.specs.Bounds.{has_later, records_until};
 
 use crate::bgp4mp::FRONT_LEN;
 use crate::reader::Read;
@@ -35,6 +36,19 @@ pub fn known_octets_are_shown<R: Read>(_reader: &R, _file: &[u8])
     ensures { (records : List MrtRecord) (fault : Option SourceFault)
         → MayCome R.gives (unread _reader.now) records fault
         → (records ≡ map front_of (records_of _file.now)) × (fault ≡ source_end (end_of _file.now)) }
+{}
+
+/// A reader of known octets, fewer than 2^50, that is read up to a time gives the front of each record before the first
+/// that is later. Then it gives the end, if some record is later: a whole one, or one that is cut short behind its
+/// header. Otherwise it gives the end or the fault of the rest.
+pub fn known_octets_are_shown_up_to<R: Read>(_reader: &R, _file: &[u8], _time: u32)
+    requires known { (octets : List ℕ) (end : ReadEnd) → R.gives _reader.now octets end
+        → (octets ≡ _file.now) × (end ≡ FileEnds) }
+    requires fits { length _file.now < read_limit }
+    ensures { (records : List MrtRecord) (fault : Option SourceFault)
+        → MayCome R.gives (unread_until (Some _time) _reader.now) records fault
+        → (records ≡ map front_of (records_until (Some _time) _file.now))
+        × (fault ≡ (if has_later (Some _time) _file.now then None else source_end (end_of _file.now))) }
 {}
 
 /// What is read of a file within bounds is a file too, a beginning of it. Its records are those before the first that

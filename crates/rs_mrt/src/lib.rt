@@ -34,7 +34,7 @@ pub use fault::{MrtFault, SourceFault};
 pub use inlet::READ_LIMIT;
 pub use laws::{
     examples_hold, file_splits_in_one_way, front_of_a_record_says_the_same, known_octets_are_shown,
-    what_is_within_bounds,
+    known_octets_are_shown_up_to, what_is_within_bounds,
 };
 pub use lenient::Lenient;
 pub use meaning::Entry;
