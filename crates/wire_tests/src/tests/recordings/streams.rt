@@ -3,8 +3,8 @@
 ghost use Rattle.std.specs.Prelude.{◌≡◌, ◌++◌, ◌<◌, OnOk};
 
 use rs_mrt::{
-    Failed, IoReader, IoWriter, Limits, MemoryReader, MemoryWriter, Read, ReadLimits, RecordReader,
-    Source, SourceFault, Write, write_all,
+    Failed, IoReader, IoWriter, Lenient, Limits, MemoryReader, MemoryWriter, MrtFault, Read,
+    ReadLimits, RecordReader, Source, SourceFault, Tail, Write, write_all,
 };
 use std::alloc::Global;
 use std::io;
@@ -107,6 +107,101 @@ fn first_wrong_call() -> Option<u64> {
 #[test]
 fn whichever_call_fails_the_records_before_it_come(rt: HostRuntime) {
     assert_eq!(rt; first_wrong_call(), None);
+}
+
+// Three answers of the records of these octets, of which as many are given as the limits say.
+fn answers_by(tail: Tail, octets: &[u8], limits: ReadLimits) -> [Result<bool, SourceFault>; 3] {
+    let records = RecordReader::new(MemoryReader::new(octets, limits));
+    let mut records = Lenient::new(records, tail);
+    [records.advance(), records.advance(), records.advance()]
+}
+
+// The file ends in the header of the second record, or in the body of the first one.
+#[test]
+fn a_record_that_is_cut_short_is_left_out_if_the_tail_is_lenient(rt: HostRuntime) {
+    let in_header = &TWO_RECORDS[..26];
+    let in_body = &TWO_RECORDS[..14];
+    let limits = ReadLimits::none();
+    let header = Err(SourceFault::Mrt(MrtFault::HeaderCutShort));
+    let body = Err(SourceFault::Mrt(MrtFault::BodyCutShort));
+    let answers = [
+        answers_by(Tail::Strict, in_header, limits),
+        answers_by(Tail::Lenient, in_header, limits),
+        answers_by(Tail::Strict, in_body, limits),
+        answers_by(Tail::Lenient, in_body, limits),
+    ];
+    assert_eq!(rt;
+        answers,
+        [
+            [Ok(true), header, header],
+            [Ok(true), Ok(false), Ok(false)],
+            [body, body, body],
+            [Ok(false), Ok(false), Ok(false)],
+        ]
+    );
+}
+
+#[test]
+fn a_failed_read_is_answered_if_the_tail_is_lenient(rt: HostRuntime) {
+    let limits = ReadLimits {
+        octets_before_failure: Some(20),
+        ..ReadLimits::none()
+    };
+    let failed = Err(SourceFault::Read);
+    let answers = answers_by(Tail::Lenient, TWO_RECORDS, limits);
+    assert_eq!(rt; answers, [Ok(true), failed, failed]);
+}
+
+// A record at 1 second, and the header of one at 3 seconds, with the largest Length.
+const LATER_HEADER: &[u8] = &[
+    0, 0, 0, 1, 0, 13, 0, 1, 0, 0, 0, 3, 1, 2, 3, 0, 0, 0, 3, 0, 13, 0, 2, 255, 255, 255, 255,
+];
+
+// Three answers up to a time, of a reader that fails behind that header. A call gives so many octets at most.
+fn answers_up_to(until: Option<u32>, piece: usize) -> [Result<bool, SourceFault>; 3] {
+    let limits = ReadLimits {
+        octets_before_failure: Some(LATER_HEADER.len()),
+        piece,
+        ..ReadLimits::none()
+    };
+    let mut records = RecordReader::up_to(MemoryReader::new(LATER_HEADER, limits), until);
+    [records.advance(), records.advance(), records.advance()]
+}
+
+#[test]
+fn the_records_end_before_a_later_one_whose_body_cannot_be_read(rt: HostRuntime) {
+    let failed = Err(SourceFault::Read);
+    let answers = [
+        answers_up_to(Some(0), 1),
+        answers_up_to(Some(2), 1),
+        answers_up_to(Some(2), 100),
+        answers_up_to(Some(3), 1),
+        answers_up_to(None, 100),
+    ];
+    assert_eq!(rt;
+        answers,
+        [
+            [Ok(false), Ok(false), Ok(false)],
+            [Ok(true), Ok(false), Ok(false)],
+            [Ok(true), Ok(false), Ok(false)],
+            [Ok(true), failed, failed],
+            [Ok(true), failed, failed],
+        ]
+    );
+}
+
+// A second call of the reader would ask for the body.
+#[test]
+fn the_body_of_a_later_record_is_not_asked_for(rt: HostRuntime) {
+    let calls = AtomicUsize::new(0);
+    let reader = IoReader::new(Counted {
+        left: LATER_HEADER,
+        calls: &calls,
+    });
+    let mut records = RecordReader::up_to(reader, Some(2));
+    let answers = [records.advance(), records.advance(), records.advance()];
+    let count = calls.load(Ordering::SeqCst);
+    assert_eq!(rt; (answers, count), ([Ok(true), Ok(false), Ok(false)], 1));
 }
 
 const PIECE: [u8; 40] = [7; 40];
