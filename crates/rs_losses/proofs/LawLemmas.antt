@@ -23,8 +23,10 @@ use Rattle.rs_mrt.specs.Source.{source_end}
 use Rattle.rs_session.specs.Effect.{effect_of, effect_of_entry}
 use Rattle.rs_session.specs.FileChanges.{changes_of}
 use Rattle.rs_losses.specs.Inserting.{behind_record, lost, octets_along, up_with}
-use Rattle.rs_losses.specs.Laws.{ChangesAreThose, EndStays, IsSought, LossIsJustALoss, OctetsAreThose, RecordsAreThose, session_of}
+use Rattle.rs_losses.specs.Laws.{ChangesAreThose, EndStays, IsSought, LossIsJustALoss, OctetsAreThose, RecordsAreThose}
+use Rattle.rs_losses.specs.Laws.{ShownAreThose, session_of}
 use Rattle.rs_losses.specs.Losses.{file_with_losses, is_session_up, loss_record, news_of, peer_of, shows_loss, told_by, with_losses, with_losses_behind}
+use Rattle.rs_losses.specs.WithLosses.{losses_along}
 use Rattle.rs_losses.specs.declared.following.Followed.{Followed}
 use Rattle.rs_losses.specs.declared.losses.Sought.{Sought}
 use Rattle.rs_losses.proofs.RecordLemmas.{records_of-none, rest_of-none}
@@ -83,6 +85,35 @@ behind-lost who r given fits =
     up-more peer one given ∙ ap (up_with (is_session_up peer given)) (loss-down who r.time fits) in
     ap (λ (up : Bool). record { peer = who; up = up })
     (sym (up-more peer r (one ∷ given) ∙ ap (λ (up : Bool). up_with up (news_of peer (outline_note r))) down))
+
+-- ---- the records
+
+along-records : (who : Sought) (fits : IsSought who) (records given : List MrtRecord)
+    → losses_along (followed_at who given) records ≡ with_losses_behind who given records
+along-records who fits [] given = refl
+along-records who fits (r ∷ later) given =
+    let f = followed_at who given in
+    elim (cases_Bool (shows_loss who given r)) [
+      | inl is_lost ↦
+          (let one = loss_record who r.time in
+          let left : losses_along f (r ∷ later) ≡ one ∷ r ∷ losses_along (behind_record (lost f) r) later = cond-true _ _ _ is_lost in
+          let right : with_losses_behind who given (r ∷ later) ≡ one ∷ r ∷ with_losses_behind who (r ∷ one ∷ given) later =
+          cond-true _ _ _ is_lost in
+          left
+          ∙ ap (λ (g : Followed). one ∷ r ∷ losses_along g later) (behind-lost who r given fits)
+          ∙ ap (λ (rs : List MrtRecord). one ∷ r ∷ rs) (along-records who fits later (r ∷ one ∷ given))
+          ∙ sym right)
+      | inr kept ↦
+          (let left : losses_along f (r ∷ later) ≡ r ∷ losses_along (behind_record f r) later = cond-false _ _ _ kept in
+          let right : with_losses_behind who given (r ∷ later) ≡ r ∷ with_losses_behind who (r ∷ given) later = cond-false _ _ _ kept in
+          left
+          ∙ ap (λ (g : Followed). r ∷ losses_along g later) (behind-kept who r given)
+          ∙ ap (λ (rs : List MrtRecord). r ∷ rs) (along-records who fits later (r ∷ given))
+          ∙ sym right)
+    ]
+
+pub shown-law : ShownAreThose
+shown-law who records fits = along-records who fits records []
 
 -- ---- the octets
 

@@ -3,3 +3,4 @@ mod OctetLemmas
 mod HeldLemmas
 mod GoesOnLemmas
 mod LawLemmas
+mod ComesLemmas

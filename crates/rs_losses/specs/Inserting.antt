@@ -1,6 +1,6 @@
 -- How a reader inserts losses: what it may give, and its steps. Only the records of a file are from a standard here
 -- (RFC 6396, section 2).
-use Rattle.std.specs.Prelude.{◌≡◌, ◌⊎◌, ℕ, ◌+◌, ◌<◌, ◌≤◌, Bool, true, false, ◌&&◌, ◌||◌, if◌then◌else◌, List, []}
+use Rattle.std.specs.Prelude.{◌≡◌, ◌⊎◌, ℕ, ◌+◌, ◌<◌, ◌≤◌, Bool, true, false, not, ◌&&◌, ◌||◌, if◌then◌else◌, List, []}
 use Rattle.std.specs.Prelude.{◌∷◌, ◌++◌, length, take, drop, Option, Some, None, Result, Ok, Err, refl}
 use Rattle.rs_mrt.specs.Reader.{ReadEnd, FileEnds, ReadFails, SomethingIsGiven}
 use Rattle.rs_mrt.specs.Record.{MrtRecord, front_record, has_record, octets_of, record_spelling, records_of}
@@ -32,6 +32,10 @@ lost f = record f { up = false }
 -- a loss comes before this record
 abbrev pub is_lost_before : Followed → MrtRecord → Bool
 is_lost_before f r = f.up && tells_of_loss f.peer r
+
+-- the session before a record, or behind the loss before it
+abbrev pub before_record : Followed → MrtRecord → Followed
+before_record f r = record f { up = not (is_lost_before f r) && f.up }
 
 -- ---- the octets
 

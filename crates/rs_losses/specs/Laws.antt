@@ -1,6 +1,6 @@
 -- What is true of the definitions.
 use Rattle.std.specs.Prelude.{◌≡◌, ℕ, ◌^◌, ◌<◌, List, All}
-use Rattle.rs_mrt.specs.Record.{end_of, records_of}
+use Rattle.rs_mrt.specs.Record.{MrtRecord, end_of, records_of}
 use Rattle.rs_mrt.specs.Source.{source_end}
 use Rattle.rs_session.specs.Effect.{effect_of, loss}
 use Rattle.rs_session.specs.FileChanges.{changes_in_by, changes_of}
@@ -8,11 +8,18 @@ use Rattle.rs_session.specs.declared.peer.PeerId.{PeerId}
 use Rattle.rs_update.specs.declared.errors.Errors.{Errors}
 use Rattle.rs_losses.specs.Inserting.{from_the_first, octets_with}
 use Rattle.rs_losses.specs.Losses.{file_with_losses, loss_record, with_losses}
+use Rattle.rs_losses.specs.WithLosses.{losses_along}
 use Rattle.rs_losses.specs.declared.losses.Sought.{Sought}
 
 -- the address and the AS number of a peer have four octets each
 abbrev pub IsSought : Sought → Type 0
 IsSought who = (who.address < 2 ^ 32) × (who.asn < 2 ^ 32)
+
+-- the records that a source with losses shows are the records of the source with the losses inserted
+abbrev pub ShownAreThose : Type 0
+ShownAreThose =
+    (who : Sought) (records : List MrtRecord) → IsSought who
+    → losses_along (from_the_first who) records ≡ with_losses who records
 
 -- the octets that a reader gives are the records with the losses inserted, and then the rest of the file
 abbrev pub OctetsAreThose : Type 0

@@ -9,7 +9,8 @@ ghost use Rattle.std.specs.Prelude.{◌≡◌, None};
 ghost use Rattle.std.specs.Option.{option_map};
 ghost use Rattle.rs_mrt.specs.Record.{record_of};
 ghost use Rattle.rs_losses.specs.Losses.{is_begun, is_misplaced, is_recorder, news_of, peer_of};
-ghost use Rattle.rs_losses.specs.Inserting.{Passes, first_record, pass_at, up_with};
+ghost use Rattle.rs_losses.specs.Inserting.{Passes, before_record, behind_record, first_record, is_lost_before};
+ghost use Rattle.rs_losses.specs.Inserting.{pass_at, up_with};
 
 use crate::losses::Sought;
 use rs_inventory::{News, Note, Peer, outlined, recorder};
@@ -38,21 +39,38 @@ impl Followed {
         }
     }
 
+    /// Whether a loss comes before a record, and the session behind that record.
+    pub(crate) fn meet(self, recorded: &Record<'_>) -> (bool, Followed)
+        ensures lost { result.0 ≡ is_lost_before self (record_of recorded.now) }
+        ensures behind { result.1
+            ≡ behind_record (before_record self (record_of recorded.now)) (record_of recorded.now) }
+    {
+        let note = outlined(recorded);
+        let news = news_of(note, self.peer);
+        let is_lost = self.up
+            && (is_begun(news) || is_misplaced(note, recorder(recorded), self.peer));
+        let before = Followed {
+            peer: self.peer,
+            up: !is_lost && self.up,
+        };
+        (is_lost, before.behind(news))
+    }
+
     // How many octets the first record takes, and the session after it. None if the octets begin with no whole
     // record, or if a loss comes before it.
     fn pass(self, octets: &[u8]) -> Option<(usize, Followed)>
         ensures { result ≡ pass_at self octets.now }
     {
         let recorded = first_record(octets)?;
-        let note = outlined(&recorded);
-        let news = news_of(note, self.peer);
-        if self.up && (is_begun(news) || is_misplaced(note, recorder(&recorded), self.peer)) {
+        let (is_lost, after) = self.meet(&recorded);
+        if is_lost {
             return None;
         }
-        Some((HEADER_LEN + recorded.body.len(), self.behind(news)))
+        Some((HEADER_LEN + recorded.body.len(), after))
     }
 
-    /// How many octets the whole records at the front take that come before the first loss, and the session behind them.
+    /// How many octets the whole records at the front take that come before the first loss, and the session behind
+    /// them.
     pub(crate) fn pass_all(self, octets: &[u8]) -> (usize, Followed)
         ensures passes { Passes self octets.now result.0 result.1 }
         ensures none { result.0 ≡ 0 → pass_at self octets.now ≡ None }

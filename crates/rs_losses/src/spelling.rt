@@ -8,10 +8,11 @@ use crate::losses::Sought;
 use byteorder::{BigEndian, ByteOrder};
 use rs_mrt::{AFI_IPV4, BGP4MP, HEADER_LEN, STATE_CHANGE_AS4};
 
-/// How many octets the record has: its header and 24 octets of fields.
-pub(crate) const LOSS_LEN: usize = HEADER_LEN + FIELDS_LEN;
+/// How many octets the record has: its header and its body.
+pub(crate) const LOSS_LEN: usize = HEADER_LEN + BODY_LEN;
 
-const FIELDS_LEN: usize = 24;
+/// How many octets its body has.
+pub(crate) const BODY_LEN: usize = 24;
 
 // Where the fields of the header begin, behind the Timestamp (RFC 6396, section 2).
 const KIND_AT: usize = 4;
@@ -20,23 +21,34 @@ const SUBTYPE_AT: usize = 6;
 
 const LENGTH_AT: usize = 8;
 
-// Where the fields of BGP4MP_STATE_CHANGE_AS4 begin that are not zero (RFC 6396, section 4.4.4).
-const PEER_AS_AT: usize = 12;
+// Where the fields of BGP4MP_STATE_CHANGE_AS4 begin, behind the Peer AS, that are not zero (RFC 6396, section 4.4.4).
+const FAMILY_AT: usize = 10;
 
-const FAMILY_AT: usize = 22;
+const PEER_AT: usize = 12;
 
-const PEER_AT: usize = 24;
+const OLD_STATE_AT: usize = 20;
 
-const OLD_STATE_AT: usize = 32;
-
-const NEW_STATE_AT: usize = 34;
+const NEW_STATE_AT: usize = 22;
 
 // The state Established, and 0, which is no state (RFC 6396, section 4.4.1).
 const ESTABLISHED: u16 = 6;
 
 const NO_STATE: u16 = 0;
 
-/// The octets of a record that says that the session was lost at this time, in seconds since 1970.
+/// The body of a record that says that the session was lost.
+pub(crate) fn loss_body(peer: Sought) -> [u8; BODY_LEN]
+    ensures { result ≡ (loss_record peer 0).body }
+{
+    let mut body = [0; BODY_LEN];
+    BigEndian::write_u32(&mut body, peer.asn);
+    BigEndian::write_u16(&mut body[FAMILY_AT..], AFI_IPV4);
+    BigEndian::write_u32(&mut body[PEER_AT..], peer.address);
+    BigEndian::write_u16(&mut body[OLD_STATE_AT..], ESTABLISHED);
+    BigEndian::write_u16(&mut body[NEW_STATE_AT..], NO_STATE);
+    body
+}
+
+/// The octets of such a record at this time, in seconds since 1970.
 pub(crate) fn loss_octets(peer: Sought, time: u32) -> [u8; LOSS_LEN]
     ensures { result ≡ record_spelling (loss_record peer time) }
 {
@@ -44,11 +56,7 @@ pub(crate) fn loss_octets(peer: Sought, time: u32) -> [u8; LOSS_LEN]
     BigEndian::write_u32(&mut octets, time);
     BigEndian::write_u16(&mut octets[KIND_AT..], BGP4MP);
     BigEndian::write_u16(&mut octets[SUBTYPE_AT..], STATE_CHANGE_AS4);
-    BigEndian::write_u32(&mut octets[LENGTH_AT..], FIELDS_LEN as u32);
-    BigEndian::write_u32(&mut octets[PEER_AS_AT..], peer.asn);
-    BigEndian::write_u16(&mut octets[FAMILY_AT..], AFI_IPV4);
-    BigEndian::write_u32(&mut octets[PEER_AT..], peer.address);
-    BigEndian::write_u16(&mut octets[OLD_STATE_AT..], ESTABLISHED);
-    BigEndian::write_u16(&mut octets[NEW_STATE_AT..], NO_STATE);
+    BigEndian::write_u32(&mut octets[LENGTH_AT..], BODY_LEN as u32);
+    octets[HEADER_LEN..].copy_from_slice(&loss_body(peer));
     octets
 }

@@ -9,12 +9,13 @@
 //! - `prefix`: a session that is asked for 203.0.113.0/24, and up to which time.
 //! - `entries`: what each record says.
 //! - `bodies` and `lengths`: the records themselves.
+//! - `marks`: the time of each record, and which ones were put in.
 //! - `inventory`: what the file holds; the lines are some of it.
 //! - `whole inventory`: what the file holds; the lines are all of it.
 //!
 //! Of the file there may be just some `octets`. A reader gives at most a piece at a time, of each of these `pieces`.
-//! A read `fails` after so many octets. With `losses` the reader puts
-//! losses in: those `inferred`, or none. The peer is alone with its AS number, or `beside another`.
+//! A read `fails` after so many octets. With `losses` they are put in: those `inferred`, or none. The peer is alone
+//! with its AS number, or `beside another`.
 
 mod attributes;
 mod inventories;
@@ -27,7 +28,7 @@ mod told;
 
 use super::said::Said;
 use super::words::Octets;
-use rs_losses::{LossReader, Losses, Sought};
+use rs_losses::{LossReader, Losses, Sought, WithLosses};
 use rs_mrt::{
     Entry, MemoryReader, MrtFault, ReadLimits, Record, RecordReader, Records, Source, SourceFault,
     entry,
@@ -336,6 +337,51 @@ fn losses_of(way: &str) -> (Losses, Sought) {
     (losses, peer)
 }
 
+// Goes one record on, and appends its time and whether it was put in. Answers whether there is one.
+fn add_mark<S: Source>(said: &mut Said, source: &mut WithLosses<S>) -> bool {
+    let more = source.advance();
+    let mark = if source.is_put_in() { " put in" } else { "" };
+    match source.shown() {
+        Some(record) => {
+            let time = record.time;
+            said.add(format_args!("\n    {time}{mark}"));
+            true
+        }
+        None => {
+            add_stop(said, more);
+            said.add(mark);
+            false
+        }
+    }
+}
+
+// Appends which of the records were put in.
+fn add_marks<S: Source>(said: &mut Said, source: &mut WithLosses<S>) {
+    for _ in 0..1000 {
+        if !add_mark(said, source) {
+            break;
+        }
+    }
+}
+
+// Appends what a file says with losses put in: between its records, and then also between its octets.
+fn add_with_losses(said: &mut Said, alloc: Global, file: &[u8], way: &str, piece: usize) {
+    let (losses, peer) = losses_of(way);
+    let records = RecordReader::new(MemoryReader::new(file, limits_of(way, piece)));
+    let mut source = WithLosses::new(records, losses, peer);
+    if way.starts_with("marks") {
+        return add_marks(said, &mut source);
+    }
+    add_said_by(said, alloc, source, way);
+    let mut other = Said::new(alloc);
+    let reader = MemoryReader::new(file, limits_of(way, piece));
+    let reader = LossReader::new(alloc, reader, losses, peer);
+    add_said_by(&mut other, alloc, RecordReader::new(reader), way);
+    if said.text() != other.text() {
+        said.add("\n    other losses between the octets");
+    }
+}
+
 // What a file says to the one who reads it so, in pieces of at most so many octets, or at hand if they are none.
 fn read(alloc: Global, file: &[u8], way: &str, piece: usize) -> Said {
     let mut said = Said::new(alloc);
@@ -347,10 +393,7 @@ fn read(alloc: Global, file: &[u8], way: &str, piece: usize) -> Said {
     if way.contains("inventory") {
         add_told(&mut said, alloc, file, limits_of(way, piece));
     } else if way.contains("losses") {
-        let (losses, peer) = losses_of(way);
-        let reader = MemoryReader::new(file, limits_of(way, piece));
-        let reader = LossReader::new(alloc, reader, losses, peer);
-        add_said_by(&mut said, alloc, RecordReader::new(reader), way);
+        add_with_losses(&mut said, alloc, file, way, piece);
     } else if piece == 0 {
         add_said_by(&mut said, alloc, Records::new(file), way);
     } else {
