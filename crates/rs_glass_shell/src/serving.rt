@@ -5,7 +5,7 @@ ghost use Rattle.std.specs.Prelude.{◌≡◌, IfOk, length};
 use crate::built::Built;
 use crate::unanswered::Unanswered;
 use rs_host::{Unready, WordsFault, open_files};
-use rs_losses::Losses;
+use rs_mrt::Losses;
 use rs_notes::Outlines;
 use rs_query::{CheckQuery, TablesQuery};
 use rs_serve::{FloorRefused, Open, Served, serve_by};

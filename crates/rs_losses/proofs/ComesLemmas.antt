@@ -16,8 +16,8 @@ use Rattle.rs_losses.specs.WithLosses.{end_within, loss_or, losses_along, met, m
 use Rattle.rs_losses.specs.WithLosses.{octets_first, pending, repeated, shown_by, shown_of}
 use Rattle.rs_losses.specs.WithLosses.{stopped_of, within}
 use Rattle.rs_losses.specs.declared.following.Followed.{Followed}
-use Rattle.rs_losses.specs.declared.losses.Losses.{Losses}
-use Rattle.rs_losses.specs.declared.losses.Losses.TheVariants as losses
+use Rattle.rs_mrt.specs.declared.losses.Losses.{Losses}
+use Rattle.rs_mrt.specs.declared.losses.Losses.TheVariants as losses
 use Rattle.rs_losses.specs.declared.losses.Sought.{Sought}
 use Rattle.rs_losses.proofs.LawLemmas.{shown-law}
 

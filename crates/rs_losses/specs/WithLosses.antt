@@ -11,8 +11,8 @@ use Rattle.rs_mrt.specs.Source.{Advances, CountsFailure, SomethingComes, Stays, 
 use Rattle.rs_losses.specs.Inserting.{before_record, behind_record, from_the_first, is_lost_before, lost}
 use Rattle.rs_losses.specs.Losses.{loss_record, with_losses}
 use Rattle.rs_losses.specs.declared.following.Followed.{Followed}
-use Rattle.rs_losses.specs.declared.losses.Losses.{Losses}
-use Rattle.rs_losses.specs.declared.losses.Losses.TheVariants as losses
+use Rattle.rs_mrt.specs.declared.losses.Losses.{Losses}
+use Rattle.rs_mrt.specs.declared.losses.Losses.TheVariants as losses
 use Rattle.rs_losses.specs.declared.losses.Sought.{Sought}
 
 -- ---- the records

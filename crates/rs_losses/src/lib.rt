@@ -17,5 +17,5 @@ pub use laws::{
     what_the_octets_with_losses_are,
 };
 pub use loss_reader::LossReader;
-pub use losses::{Losses, Sought};
+pub use losses::Sought;
 pub use with_losses::WithLosses;

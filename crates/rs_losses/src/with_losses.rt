@@ -11,14 +11,16 @@ ghost use Rattle.std.specs.Prelude.{List, None, Option, Some, false};
 ghost use Rattle.rs_mrt.specs.declared.fault.SourceFault.{SourceFault};
 ghost use Rattle.rs_losses.specs.Inserting.{is_lost_before};
 ghost use Rattle.rs_losses.specs.Losses.{loss_record};
-ghost use Rattle.rs_losses.specs.declared.losses.Losses.TheVariants.{Inferred};
+ghost use Rattle.rs_mrt.specs.declared.losses.Losses.TheVariants.{Inferred};
 ghost use Rattle.rs_losses.specs.WithLosses.{ComesBy, ComesFirst, GoesOn, IsFullBy, answer_within, counted, met};
 ghost use Rattle.rs_losses.specs.WithLosses.{octets_first, room_by, shown_by, something_comes, stopped_by, unbegun};
 
 use crate::following::Followed;
-use crate::losses::{Losses, Sought};
+use crate::losses::Sought;
 use crate::spelling::{BODY_LEN, LOSS_LEN, loss_body};
-use rs_mrt::{BGP4MP, HEADER_LEN, READ_LIMIT, Record, STATE_CHANGE_AS4, Source, SourceFault};
+use rs_mrt::{
+    BGP4MP, HEADER_LEN, Losses, READ_LIMIT, Record, STATE_CHANGE_AS4, Source, SourceFault,
+};
 use std::marker::Model;
 
 /// The records of another source, with the losses put in that they show. If only recorded losses are read it just

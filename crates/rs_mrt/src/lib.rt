@@ -1,8 +1,8 @@
 //! MRT records of a recording of BGP (RFC 6396): those of a file, at hand or in pieces, what a BGP4MP record says,
 //! and the header of a record that is written.
 //!
-//! Reading order: `record`, `fault`, `meaning`, `bgp4mp`, `source`. How much of a file is read: `bounds`, `lenient`.
-//! Files in pieces: `reader`, `inlet`, `window`, `record_reader`; a part of one: `bounded_reader`. What is written:
+//! Reading order: `record`, `fault`, `meaning`, `bgp4mp`, `source`. How a file is read: `bounds`, `losses`,
+//! `lenient`. Files in pieces: `reader`, `inlet`, `window`, `record_reader`; a part of one: `bounded_reader`. What is written:
 //! `spelling`, `stream`. At last `memory`, `memory_reader`; `laws`.
 //!
 //! Standards: RFC 6396, sections 2 (header), 3 and 4.5 (BGP4MP_ET), 4.4.3 and 4.4.4 (BGP4MP with AS numbers of four
@@ -16,6 +16,7 @@ mod fault;
 mod inlet;
 mod laws;
 mod lenient;
+mod losses;
 mod meaning;
 mod memory;
 mod memory_reader;
@@ -37,6 +38,7 @@ pub use laws::{
     known_octets_are_shown_up_to, what_is_within_bounds,
 };
 pub use lenient::Lenient;
+pub use losses::Losses;
 pub use meaning::Entry;
 pub use memory::{Limits, MemoryWriter};
 pub use memory_reader::{MemoryReader, ReadLimits};

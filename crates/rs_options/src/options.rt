@@ -3,7 +3,7 @@
 ghost use Rattle.std.specs.Prelude.{◌≡◌};
 ghost use Rattle.rs_options.specs.declared.options.WordsFault.TheVariants.{Memory};
 
-use rs_losses::Losses;
+use rs_mrt::Losses;
 use rs_mrt::Bounds;
 use rs_update::Errors;
 use std::alloc::AllocError;

@@ -16,7 +16,7 @@ use crate::version::VERSION;
 use clap::builder::ValueParser;
 use clap::error::ErrorKind;
 use clap::{Arg, ArgAction, ArgMatches, Command, Error, value_parser};
-use rs_losses::Losses;
+use rs_mrt::Losses;
 use rs_mrt::{Bounds, Tail};
 use std::alloc::{AllocError, Global};
 

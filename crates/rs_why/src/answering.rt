@@ -15,7 +15,7 @@ use rs_glass_shell::{
     Reply, Unanswered, Whose, answer_with, check_place, known_of, peer_named, write_whole,
 };
 use rs_host::{WordsFault, configuration, first_unreadable, on_one_line, open_files};
-use rs_losses::Losses;
+use rs_mrt::Losses;
 use rs_mrt::{Bounds, Tail};
 use rs_notes::Outlines;
 use rs_query::{Destination, HistoryQuery, Span, WhyQuery};

@@ -4,7 +4,7 @@
 ghost use Rattle.std.specs.Prelude.{◌≡◌, ◌<◌, ◌≤◌, IfOk, length};
 
 use rs_host::{Options, Strictness};
-use rs_losses::Losses;
+use rs_mrt::Losses;
 use rs_mrt::{Bounds, IoWriter, Limits, MemoryReader, MemoryWriter, ReadLimits, Write};
 use rs_outlet::{Kept, MemoryOutlet, OutletLimits, RunFault};
 use rs_program::{Cleared, Progress};

@@ -1,7 +1,7 @@
 use Rattle.std.proofs.Common.{◌≡◌, ap, subst, sym, ◌∙◌}
 use Rattle.rs_mrt.specs.Source.{Advances}
 use Rattle.rs_losses.specs.WithLosses.{ComesBy, Inferring, shown_by}
-use Rattle.rs_losses.specs.declared.losses.Losses.TheVariants.{Inferred}
+use Rattle.rs_mrt.specs.declared.losses.Losses.TheVariants.{Inferred}
 use Rattle.rs_losses.proofs.ComesLemmas.{inferred-records, recorded-records}
 use Rattle.rs_losses.proofs.with_losses.WithLossesSource.advance.Goals as goal
 
