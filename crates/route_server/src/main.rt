@@ -19,7 +19,7 @@ use rs_program::{
     Cleared, Ended, FolderOutlet, Progress, command_line, end, progress_on, ready_files, run_status,
 };
 use rs_run::{Ran, run_if};
-use rs_serve::Served;
+use rs_serve::{Served, record_readers};
 use rs_setup::Setup;
 use std::alloc::Global;
 use std::fs::Files;
@@ -120,13 +120,14 @@ where
     ensures { IfErr result (λ ended. CanTell ended (Some setup.entry) (Some options.entry)) }
 {
     let alloc = rt.alloc();
+    let sources = record_readers(alloc, files)?;
     let mut outlet = FolderOutlet::new(rt, alloc, &options.out);
     let mut report = IoWriter::new(Cleared::new(io::writer(rt), progress));
     let ran = run_if(
         rt,
         alloc,
         setup,
-        files,
+        sources,
         options,
         is_wanted,
         &mut outlet,

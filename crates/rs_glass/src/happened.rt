@@ -94,7 +94,7 @@ fn happenings_of<R: Read + Drop>(
     ensures fault { IfErr result (IsFaultOf R.gives question.now recording.id recording.reader recording.peer) }
 {
     let Recording { peer, id, reader } = recording;
-    a_reader_gives_a_file_or_fails(&reader);
+    a_reader_gives_a_file_or_fails::<R>();
     let mut records = RecordReader::new(reader);
     let mut listing = Listing::of_nothing(alloc, peer, *question);
     while take_next(alloc, &mut listing, &mut records, id, question.errors)? {}

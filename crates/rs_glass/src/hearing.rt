@@ -62,7 +62,7 @@ fn hear_changes<R: Read + Drop>(
     requires failures { R.failures reader < u64.MAX }
     ensures { IfOk result (λ heard. IsSaidBefore R.gives question.now id reader heard.routes heard.said) }
 {
-    a_reader_gives_a_file_or_fails(&reader);
+    a_reader_gives_a_file_or_fails::<R>();
     left_after_one_more();
     left_by_part();
     left_by_last_changes();

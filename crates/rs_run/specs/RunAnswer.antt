@@ -3,70 +3,61 @@
 use Rattle.std.specs.Prelude.{◌≡◌, ◌+◌, ◌<◌, ℕ, Bool, true, false, List, Option, Result, Ok, Err, length, take}
 use Rattle.std.specs.Io.KnownBytes.{Appends}
 use Rattle.rs_choice.specs.Plan.{Plan}
-use Rattle.rs_keep.specs.Kept.{IsDumpFailure}
-use Rattle.rs_mrt.specs.Reader.{ReadEnd}
+use Rattle.rs_keep.specs.Kept.{IsDumpFailure, dumps_of}
 use Rattle.rs_mrt.specs.Stream.{AppendsBeginning}
 use Rattle.rs_outlet.specs.Outlet.{Grows, KeptDump}
 use Rattle.rs_outlet.specs.declared.run_fault.RunFault.{RunFault}
 use Rattle.rs_outlet.specs.declared.run_fault.RunFault.TheVariants.{Memory, Unsettled, Dump, Report, Read}
 use Rattle.rs_table.specs.Table.{table_of}
-use Rattle.rs_update.specs.declared.errors.Errors.{Errors}
 use Rattle.rs_run.specs.declared.runner.Ran.{Ran}
-use Rattle.rs_run.specs.Recorded.{FailsAt, OverFiles, tables_of_files}
-use Rattle.rs_run.specs.Report.{report_of_files}
-use Rattle.rs_run.specs.Run.{KeepsBeginning, dumps_of_files}
+use Rattle.rs_run.specs.Report.{report_of}
+use Rattle.rs_run.specs.Run.{KeepsBeginning}
+use Rattle.rs_serve.specs.Served.{ServedContent}
 
 -- A statement about a run uses these values:
--- - For each reader: which files it may give.
+-- - What is served: `Over Holds` says that `Holds` is true of something that may be served. `Fails` says of which peers
+-- the reading may fail.
 -- - For the outlet: the dumps that it has kept, and how many failures it has counted.
 -- - For the report: the octets that it has taken, and how many failed writes it has counted.
 --
 -- The outlet and the report stand here twice: as they were before the run, and as they are after it.
-module _ {R O W : Type 0} (gives : R → List ℕ → ReadEnd → Type 0)
+module _ {O W : Type 0} (Over : (ServedContent → Type 0) → Type 0) (Fails : ℕ → Type 0)
     (kept : O → Option (List KeptDump)) (refusals : O → ℕ) (taken : W → Option (List ℕ)) (failures : W → ℕ)
-    (errors : Errors) (plan : Plan) (time : ℕ) (readers : List R)
-    (outlet later_outlet : O) (report later_report : W) where
-  -- Done: there are files that the readers may give, all dumps of these files are kept, and their report is written.
-  -- Nothing failed.
+    (plan : Plan) (time : ℕ) (outlet later_outlet : O) (report later_report : W) where
+  -- Done: all dumps of what is served are kept, and its report is written. Nothing failed.
   pub record Done : Type 0 where
-    pub over_files : OverFiles gives errors plan readers (λ files.
-        Grows (kept outlet) (kept later_outlet) (dumps_of_files errors plan files time)
-        × Appends (taken report) (taken later_report) (report_of_files errors plan files))
+    pub over : Over (λ served. Grows (kept outlet) (kept later_outlet) (dumps_of served.tables time)
+        × Appends (taken report) (taken later_report) (report_of plan served.ends served.tables))
     pub no_failure : refusals later_outlet ≡ refusals outlet
     pub no_failed_write : failures later_report ≡ failures report
 
   -- Memory was refused: only the first dumps, or none, are kept. No failure of the outlet is counted, and nothing of
   -- the report is written.
   pub record MemoryRefused : Type 0 where
-    pub keeps_beginning : KeepsBeginning gives errors plan readers time (kept outlet) (kept later_outlet)
+    pub keeps_beginning : KeepsBeginning Over time (kept outlet) (kept later_outlet)
     pub no_failure : refusals later_outlet ≡ refusals outlet
     pub reports_nothing : later_report ≡ report
 
-  -- The dump of a client isn't kept: there are files that the readers may give, of which the dumps of the clients
-  -- before it are kept. The outlet failed, or the client's table has too many rows. Nothing of the report is
-  -- written.
+  -- The dump of a client isn't kept: of what is served the dumps of the clients before it are kept. The outlet failed,
+  -- or the client's table has too many rows. Nothing of the report is written.
   pub record DumpRefused (client : ℕ) : Type 0 where
     pub known : client < length plan.peers
-    pub over_files : OverFiles gives errors plan readers (λ files.
-        Grows (kept outlet) (kept later_outlet) (take client (dumps_of_files errors plan files time))
-        × IsDumpFailure (refusals outlet) (refusals later_outlet)
-        (length (table_of (tables_of_files errors plan files) client)))
+    pub over : Over (λ served. Grows (kept outlet) (kept later_outlet) (take client (dumps_of served.tables time))
+        × IsDumpFailure (refusals outlet) (refusals later_outlet) (length (table_of served.tables client)))
     pub reports_nothing : later_report ≡ report
 
-  -- A write of the report failed: there are files that the readers may give, of which all dumps are kept. A
-  -- beginning of the report is written.
+  -- A write of the report failed: all dumps of what is served are kept. A beginning of its report is written.
   pub record ReportFailed : Type 0 where
-    pub over_files : OverFiles gives errors plan readers (λ files.
-        Grows (kept outlet) (kept later_outlet) (dumps_of_files errors plan files time)
-        × AppendsBeginning (taken report) (taken later_report) (report_of_files errors plan files))
+    pub over : Over (λ served. Grows (kept outlet) (kept later_outlet) (dumps_of served.tables time)
+        × AppendsBeginning (taken report) (taken later_report) (report_of plan served.ends served.tables))
     pub no_failure : refusals later_outlet ≡ refusals outlet
     pub failed_write : failures later_report ≡ failures report + 1
 
-  -- A read of a peer's file failed. The reader of that peer may fail while the session is open, and each reader
-  -- before it may give its peer's file. No dump is kept, and nothing of the report is written.
+  -- A read of a peer's recording failed: the reading of that peer may fail while the session is open. No dump is kept,
+  -- and nothing of the report is written.
   pub record ReadFailed (peer : ℕ) : Type 0 where
     pub known : peer < length plan.peers
-    pub fails : FailsAt gives errors plan readers peer
+    pub fails : Fails peer
     pub keeps_nothing : later_outlet ≡ outlet
     pub reports_nothing : later_report ≡ report
 

@@ -5,24 +5,26 @@
 //! failure ends the run.
 
 ghost use Rattle.std.specs.Fn.{FnOnceReturnsAt};
-ghost use Rattle.std.specs.Prelude.{◌≡◌, ◌<◌, ◌≤◌, All, IfOk, IfErr, OnOk, length, string_bytes};
+ghost use Rattle.std.specs.Prelude.{◌≡◌, ◌<◌, ◌≤◌, ◌^◌, All, IfOk, IfErr, OnOk, length, string_bytes};
 ghost use Rattle.rs_keep.specs.Kept.{dumps_of, IsStop};
 ghost use Rattle.rs_outlet.specs.Outlet.{Grows};
 ghost use Rattle.rs_outlet.specs.Started.{AreSameNames};
-ghost use Rattle.rs_run.specs.Recorded.{OverFiles, served_of_files, tables_of_files};
+ghost use Rattle.rs_run.specs.Recorded.{FailsAt, OverFiles, OverFilesServed, OverSourcesServed, SourceFailsAt};
+ghost use Rattle.rs_run.specs.Recorded.{tables_of_files};
 ghost use Rattle.rs_run.specs.Refusal.{IsFaultOf, IsReadRefusal};
 ghost use Rattle.rs_run.specs.Report.{report_of};
 ghost use Rattle.rs_run.specs.Run.{IsReadStop};
 ghost use Rattle.rs_run.specs.RunAnswer.{RunAnswer, RunIfAnswer};
 ghost use Rattle.rs_run.specs.SessionEnd.{ends_of_files};
+ghost use Rattle.rs_serve.specs.Served.{IsServedOver};
 
 use crate::report::add_peer_lines;
 use rs_choice::Exchange;
-use rs_host::Options;
+use rs_options::Options;
 use rs_keep::keep_dumps;
-use rs_mrt::{Read, Write, write_all};
+use rs_mrt::{Read, Source, Write, write_all};
 use rs_outlet::{Outlet, RunFault};
-use rs_serve::{FloorRefused, Open, PeerEnd, Served, serve_by};
+use rs_serve::{FloorRefused, Open, PeerEnd, Served, serve_by, serve_sources};
 use rs_session::a_session_closes_once;
 use rs_setup::Setup;
 use std::alloc::{AllocError, Global};
@@ -71,24 +73,16 @@ pub fn run<T: Threads + Wait + Sync, O: Outlet, W: Write, R: Read + Send + Drop>
     requires report_failures { W.failures report.old < u64.MAX }
     requires ring { (1 ≤ options.now.ring) × (options.now.ring ≤ 65536) }
     requires shards { (1 ≤ options.now.shards) × (options.now.shards ≤ 16) }
-    ensures answer { RunAnswer R.gives O.kept O.failures W.taken W.failures
-        options.now.errors setup.now.plan.value options.now.time readers.items
+    // There are files that the readers may give, and dumps and report are those of these files.
+    ensures answer { RunAnswer
+        (OverFilesServed R.gives options.now.errors setup.now.plan.value readers.items)
+        (FailsAt R.gives options.now.errors setup.now.plan.value readers.items)
+        O.kept O.failures W.taken W.failures setup.now.plan.value options.now.time
         outlet.old outlet.new report.old report.new result }
     ensures back { AreSameNames (O.started outlet.old) (O.started outlet.new) }
 {
-    match run_if(
-        rt,
-        alloc,
-        setup,
-        readers,
-        options,
-        |_served| true,
-        outlet,
-        report,
-    ) {
-        Ok(_) => Ok(()),
-        Err(fault) => Err(fault),
-    }
+    let served = serve_files(rt, alloc, &setup.plan, readers, options)?;
+    write_served(rt, alloc, &setup.plan, served, options.time, outlet, report)
 }
 
 /// What a run has done that did not fail.
@@ -101,62 +95,52 @@ pub struct Ran {
     pub is_written: bool,
 }
 
-/// A run that asks `is_wanted` before its first dump: by the tables, and how the session of each peer ended. If dumps
-/// and report are not wanted, no dump is kept, and nothing of the report is written.
+/// A run over sources of records that asks `is_wanted` before its first dump: by the tables, and how the session of each
+/// peer ended. If dumps and report are not wanted, no dump is kept, and nothing of the report is written. `sources` gives
+/// the recording of each peer, in the order of the peers. Else it does and fails as `run` does.
 pub fn run_if<
     T: Threads + Wait + Sync,
     O: Outlet,
     W: Write,
-    R: Read + Send + Drop,
+    S: Source + Send + Drop,
     D: FnOnce(&Served) -> bool,
 >(
     rt: &T,
     alloc: Global,
     setup: &Setup,
-    readers: Vec<R>,
+    sources: Vec<S>,
     options: &Options,
     is_wanted: D,
     outlet: &mut O,
     report: &mut W,
 ) -> Result<Ran, RunFault>
-    requires one_for_each { length readers.items ≡ length setup.now.plan.value.peers }
-    requires reader_failures { All (λ reader. R.failures reader < u64.MAX) readers.items }
+    requires one_for_each { length sources.items ≡ length setup.now.plan.value.peers }
+    requires room { All (λ source. S.room source ≤ 2 ^ 50) sources.items }
     requires outlet_failures { O.failures outlet.old < u64.MAX }
     requires report_failures { W.failures report.old < u64.MAX }
     requires ring { (1 ≤ options.now.ring) × (options.now.ring ≤ 65536) }
     requires shards { (1 ≤ options.now.shards) × (options.now.shards ≤ 16) }
     requires wanted { D.IsAlwaysCallable is_wanted }
-    ensures answer { RunIfAnswer R.gives O.kept O.failures W.taken W.failures
-        options.now.errors setup.now.plan.value options.now.time readers.items
+    // There are changes that sessions over the sources may tell, and dumps and report are those of these changes.
+    ensures answer { RunIfAnswer
+        (OverSourcesServed S.comes S.shows options.now.errors setup.now.plan.value sources.items)
+        (SourceFailsAt S.comes S.shows options.now.errors setup.now.plan.value sources.items)
+        O.kept O.failures W.taken W.failures setup.now.plan.value options.now.time
         outlet.old outlet.new report.old report.new result }
-    ensures ends { IfOk result (λ ran.
-        OverFiles R.gives options.now.errors setup.now.plan.value readers.items (λ files.
-        ran.ends.items ≡ ends_of_files options.now.errors setup.now.plan.value files)) }
     ensures wanted { IfOk result (λ ran.
-        OverFiles R.gives options.now.errors setup.now.plan.value readers.items (λ files.
-        (ran.ends.items ≡ ends_of_files options.now.errors setup.now.plan.value files)
-        × FnOnceReturnsAt D.FnOnce is_wanted (served_of_files options.now.errors setup.now.plan.value files)
-        ran.is_written)) }
+        OverSourcesServed S.comes S.shows options.now.errors setup.now.plan.value sources.items (λ served.
+        (ran.ends.items ≡ served.ends) × FnOnceReturnsAt D.FnOnce is_wanted served ran.is_written)) }
     ensures back { AreSameNames (O.started outlet.old) (O.started outlet.new) }
 {
-    let served = serve_files(rt, alloc, &setup.plan, readers, options)?;
+    let served = serve_recordings(rt, alloc, &setup.plan, sources, options)?;
     let ends = ends_of(alloc, &setup.plan, &served)?;
-    if !is_wanted(&served) {
+    let is_written = is_wanted(&served);
+    if is_written {
+        write_served(rt, alloc, &setup.plan, served, options.time, outlet, report)?;
+    } else {
         free_apart(rt, served);
-        return Ok(Ran {
-            ends,
-            is_written: false,
-        });
     }
-    let text = keep_and_report(rt, alloc, &setup.plan, &served, options.time, outlet)?;
-    free_apart(rt, served);
-    match write_all(report, text.as_bytes()) {
-        Ok(()) => Ok(Ran {
-            ends,
-            is_written: true,
-        }),
-        Err(_) => Err(RunFault::Report),
-    }
+    Ok(Ran { ends, is_written })
 }
 
 // How the session of each peer ended, in the order of the plan.
@@ -181,7 +165,7 @@ fn free_apart<T: Threads>(rt: &T, served: Served) {
     let _thread = spawn(rt, free);
 }
 
-// Reads the sessions of all peers, on threads.
+// Reads the sessions of all peers in the files that readers give, on threads.
 fn serve_files<T: Threads + Wait + Sync, R: Read + Send + Drop>(
     rt: &T,
     alloc: Global,
@@ -196,7 +180,8 @@ fn serve_files<T: Threads + Wait + Sync, R: Read + Send + Drop>(
     ensures served { IfOk result (λ served. OverFiles R.gives options.now.errors plan.now.value readers.items (λ files.
         (served.tables ≡ tables_of_files options.now.errors plan.now.value files)
         × (served.ends ≡ ends_of_files options.now.errors plan.now.value files))) }
-    ensures fault { IfErr result (IsReadStop R.gives options.now.errors plan.now.value readers.items) }
+    ensures fault { IfErr result (IsReadStop (FailsAt R.gives options.now.errors plan.now.value readers.items)
+        plan.now.value) }
 {
     a_session_closes_once();
     match serve_by(
@@ -204,6 +189,38 @@ fn serve_files<T: Threads + Wait + Sync, R: Read + Send + Drop>(
         alloc,
         plan,
         readers,
+        options.ring,
+        options.shards,
+        options.errors,
+        &Open,
+    ) {
+        Ok(served) => Ok(served),
+        Err(refused) => Err(fault_of(refused)),
+    }
+}
+
+// Reads the sessions of all peers in the records that sources show, on threads.
+fn serve_recordings<T: Threads + Wait + Sync, S: Source + Send + Drop>(
+    rt: &T,
+    alloc: Global,
+    plan: &Arc<Exchange>,
+    sources: Vec<S>,
+    options: &Options,
+) -> Result<Served, RunFault>
+    requires one_for_each { length sources.items ≡ length plan.now.value.peers }
+    requires room { All (λ source. S.room source ≤ 2 ^ 50) sources.items }
+    requires ring { (1 ≤ options.now.ring) × (options.now.ring ≤ 65536) }
+    requires shards { (1 ≤ options.now.shards) × (options.now.shards ≤ 16) }
+    ensures served { IfOk result
+        (IsServedOver S.comes S.shows options.now.errors plan.now.value sources.items) }
+    ensures fault { IfErr result
+        (IsReadStop (SourceFailsAt S.comes S.shows options.now.errors plan.now.value sources.items) plan.now.value) }
+{
+    match serve_sources(
+        rt,
+        alloc,
+        plan,
+        sources,
         options.ring,
         options.shards,
         options.errors,
@@ -226,6 +243,32 @@ fn fault_of(refused: FloorRefused) -> RunFault
         FloorRefused::Unsettled(peer) => RunFault::Unsettled(peer),
         FloorRefused::Capacity => unreachable!(),
         FloorRefused::Shards => unreachable!(),
+    }
+}
+
+// Keeps the dumps of what is served, and writes its report. The tables are freed before the report is written.
+fn write_served<T: Threads + Sync, O: Outlet, W: Write>(
+    rt: &T,
+    alloc: Global,
+    plan: &Exchange,
+    served: Served,
+    time: u32,
+    outlet: &mut O,
+    report: &mut W,
+) -> Result<(), RunFault>
+    requires plan { served.tables.plan ≡ plan.now }
+    requires one_for_each { length served.ends ≡ length plan.now.peers }
+    requires outlet_failures { O.failures outlet.old < u64.MAX }
+    requires report_failures { W.failures report.old < u64.MAX }
+    ensures answer { RunAnswer (λ Holds. Holds served) (λ peer. ⊥) O.kept O.failures W.taken W.failures plan.now time
+        outlet.old outlet.new report.old report.new result }
+    ensures back { AreSameNames (O.started outlet.old) (O.started outlet.new) }
+{
+    let text = keep_and_report(rt, alloc, plan, &served, time, outlet)?;
+    free_apart(rt, served);
+    match write_all(report, text.as_bytes()) {
+        Ok(()) => Ok(()),
+        Err(_) => Err(RunFault::Report),
     }
 }
 

@@ -2,5 +2,6 @@
 pub mod OpenLemmas
 pub mod ServedLemmas
 pub mod AllServedLemmas
+pub mod FilesServedLemmas
 pub mod RunLemmas
 pub mod SettleLemmas

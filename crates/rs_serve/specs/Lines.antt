@@ -1,12 +1,9 @@
 -- Rings before a run on threads begins.
 use Rattle.std.specs.Prelude.{◌≡◌, ◌≤◌, ◌^◌, ◌++◌, ◌∷◌, ℕ, [], List, All, map, length}
 use Rattle.rs_choice.specs.Plan.{Peer, Plan}
-use Rattle.rs_mrt.specs.Reader.{ReadEnd}
-use Rattle.rs_mrt.specs.RecordReading.{RecordReading, unread, room_left}
 use Rattle.rs_ring.specs.Ends.{Receiving, Sending}
 use Rattle.rs_router.specs.ShardParts.{IsShardCount}
 use Rattle.rs_router.specs.declared.routed.Routed.{Routed}
-use Rattle.rs_session.specs.Laws.{GivesFileOrFails}
 use Rattle.rs_change.specs.declared.word.Word.{Word}
 use Rattle.rs_serve.specs.Crew.{IsReady}
 use Rattle.rs_serve.specs.Laws.{IsOfPlan}
@@ -16,47 +13,44 @@ use Rattle.rs_serve.specs.Identity.{id_of}
 
 -- ---- the rings between peers and router
 
--- a worker can begin: nothing was sent through its ring, and its source has no more octets than a session reads
-abbrev pub IsReadyJob : {R : Type 0} → Job (RecordReading R) → Type 0
-IsReadyJob job = (job.out.sent ≡ []) × (room_left job.source ≤ 2 ^ 50)
+-- a worker's source has no more octets than a session reads
+abbrev pub HasFewOctets : {S : Type 0} → (S → ℕ) → Job S → Type 0
+HasFewOctets room job = room job.source ≤ 2 ^ 50
 
--- The work of a worker is to read one reader for a peer, and to send the changes through a ring. The receiving end
+-- The work of a worker is to read one source for a peer, and to send the changes through a ring. The receiving end
 -- of the ring is here.
-pub record IsLine {R : Type 0} (gives : R → List ℕ → ReadEnd → Type 0) (peer : Peer) (reader : R)
-    (job : Job (RecordReading R)) (receiver : Receiving Word) : Type 0 where
-  pub source : job.source ≡ unread reader
-  pub says : GivesFileOrFails gives reader
+pub record IsLine {S : Type 0} (peer : Peer) (source : S) (job : Job S)
+    (receiver : Receiving Word) : Type 0 where
+  pub source_is : job.source ≡ source
   pub id : job.id ≡ id_of peer
   pub ring : job.out.ring ≡ receiver.ring
-  pub ready : IsReadyJob job
+  pub unsent : job.out.sent ≡ []
   pub unreceived : receiver.received ≡ []
 
 -- one more line was opened, with room for so many changes
-pub record HasLineMore {R : Type 0} (gives : R → List ℕ → ReadEnd → Type 0) (capacity : ℕ) (peer : Peer) (reader : R)
-    (jobs_before : List (Job (RecordReading R))) (receivers_before : List (Receiving Word))
-    (jobs : List (Job (RecordReading R))) (receivers : List (Receiving Word)) : Type 0 where
-  pub job : Job (RecordReading R)
+pub record HasLineMore {S : Type 0} (capacity : ℕ) (peer : Peer) (source : S) (jobs_before : List (Job S))
+    (receivers_before : List (Receiving Word)) (jobs : List (Job S)) (receivers : List (Receiving Word)) : Type 0 where
+  pub job : Job S
   pub receiver : Receiving Word
   pub jobs_are : jobs ≡ jobs_before ++ job ∷ []
   pub receivers_are : receivers ≡ receivers_before ++ receiver ∷ []
-  pub line : IsLine gives peer reader job receiver
-  pub room : job.out.capacity ≡ capacity
+  pub line : IsLine peer source job receiver
+  pub capacity_is : job.out.capacity ≡ capacity
 
--- all workers can begin: the receiving end of each ring is here, and nothing was received through it
-pub record CanWork {R : Type 0} (jobs : List (Job (RecordReading R))) (receivers : List (Receiving Word)) : Type 0 where
+-- all workers can begin: the receiving end of each ring is here, and nothing was sent or received through it
+pub record CanWork {S : Type 0} (jobs : List (Job S)) (receivers : List (Receiving Word)) : Type 0 where
   pub rings : map (λ job. job.out.ring) jobs ≡ map (λ receiver. receiver.ring) receivers
-  pub ready : All IsReadyJob jobs
+  pub unsent : All (λ job. job.out.sent ≡ []) jobs
   pub unreceived : All (λ receiver. receiver.received ≡ []) receivers
 
 -- each ring through which workers send has room for so many changes
-abbrev pub HaveRoom : {R : Type 0} → ℕ → List (Job (RecordReading R)) → Type 0
+abbrev pub HaveRoom : {S : Type 0} → ℕ → List (Job S) → Type 0
 HaveRoom capacity jobs = All (λ job. job.out.capacity ≡ capacity) jobs
 
 -- each worker's job is that of one peer of the plan
-pub record AreLines {R : Type 0} (gives : R → List ℕ → ReadEnd → Type 0) (plan : Plan) (readers : List R)
-    (jobs : List (Job (RecordReading R))) (receivers : List (Receiving Word)) : Type 0 where
-  pub sources : map (λ job. job.source) jobs ≡ map unread readers
-  pub says : All (GivesFileOrFails gives) readers
+pub record AreLines {S : Type 0} (plan : Plan) (sources : List S) (jobs : List (Job S))
+    (receivers : List (Receiving Word)) : Type 0 where
+  pub sources_are : map (λ job. job.source) jobs ≡ sources
   pub peers : map (λ job. job.id) jobs ≡ map id_of plan.peers
   pub can : CanWork jobs receivers
 

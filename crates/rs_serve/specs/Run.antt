@@ -1,12 +1,12 @@
 -- What a run on threads leaves, once all its threads were joined.
-use Rattle.std.specs.Prelude.{◌≡◌, ◌<◌, ◌||◌, ◌⊎◌, ℕ, Bool, true, false, not, List, All, AllPairs, Result, map, length}
+use Rattle.std.specs.Prelude.{◌≡◌, ◌<◌, ◌||◌, ◌⊎◌, ℕ, Bool, true, false, not, List, All, AllPairs, Option, Result, map, length}
 use Rattle.std.specs.List.{list_any}
-use Rattle.rs_mrt.specs.Reader.{ReadEnd}
-use Rattle.rs_mrt.specs.RecordReading.{RecordReading, MayCome}
+use Rattle.rs_mrt.specs.Record.{MrtRecord}
 use Rattle.rs_ring.specs.Ends.{Receiving}
 use Rattle.rs_router.specs.Routing.{AreClosed, AreShardParts, received_lists}
 use Rattle.rs_router.specs.declared.routed.Routed.{Routed}
 use Rattle.rs_session.specs.Change.{is_read}
+use Rattle.rs_session.specs.Stage.{Comes}
 use Rattle.rs_change.specs.declared.word.Word.{Word}
 use Rattle.rs_serve.specs.Crew as shards
 use Rattle.rs_serve.specs.Crew.{AllHold}
@@ -24,9 +24,8 @@ use Rattle.rs_serve.specs.declared.fault.FloorRefused.TheVariants.{Memory, Unset
 -- The changes that receivers and shards took. Of each peer they are its changes up to the close; a settled worker
 -- sent no others. Each shard has its part of the changes in its tables, unless it was refused memory or left an item
 -- waiting.
-pub record HasRun {R : Type 0} (gives : R → List ℕ → ReadEnd → Type 0) (workers : List (Charge (RecordReading R)))
-    (of_shards : List shards.Charge)
-    (ends : List Joined) (parts : List TablesContent) (whole : Bool) : Type 0 where
+pub record HasRun {S : Type 0} (comes : Comes S) (shows : S → Option MrtRecord) (workers : List (Charge S))
+    (of_shards : List shards.Charge) (ends : List Joined) (parts : List TablesContent) (whole : Bool) : Type 0 where
   pub receivers : List (Receiving Word)
   pub sent : List (List Routed)
   pub closed : AreClosed (received_lists receivers)
@@ -34,7 +33,7 @@ pub record HasRun {R : Type 0} (gives : R → List ℕ → ReadEnd → Type 0) (
   pub counted : length receivers ≡ length workers
   pub shared : length sent ≡ length of_shards
   pub joined : length ends ≡ length workers
-  pub known : AllJoined (MayCome gives) (λ reading. reading.shown) workers receivers ends
+  pub known : AllJoined comes shows workers receivers ends
   pub held : whole ≡ true → AllHold of_shards sent parts
 
 -- the parts can be merged, and have a plan of so many peers

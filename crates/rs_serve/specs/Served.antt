@@ -1,11 +1,13 @@
 -- The result of a run on threads.
-use Rattle.std.specs.Prelude.{◌≡◌, ◌&&◌, ℕ, Bool, nat_le, List, [], ◌∷◌, ◌++◌, map, length, slice_get, Some, refl}
+use Rattle.std.specs.Prelude.{◌≡◌, ◌&&◌, ℕ, Bool, nat_le, List, [], ◌∷◌, ◌++◌, map, length, slice_get, Option, Some, refl}
 use Rattle.std.specs.Coded.{Coded, code_by, coded×, coded_ℕ, coded_list}
 use Rattle.std.specs.List.{zip}
 use Rattle.rs_choice.specs.Plan.{Peer, Plan}
 use Rattle.rs_session.specs.Change.{Change}
 use Rattle.rs_session.specs.FileChanges.{changes_in_by, passed_in_by, close_at}
 use Rattle.rs_session.specs.Given.{OverGivenFiles}
+use Rattle.rs_session.specs.Stage.{Comes}
+use Rattle.rs_session.specs.Told.{ClosesFor, OverTold, Told}
 use Rattle.rs_change.specs.contracts.word.Reason as reason
 use Rattle.rs_session.specs.declared.peer.PeerId.{PeerId}
 use Rattle.rs_change.specs.declared.word.Reason.{Reason}
@@ -13,6 +15,7 @@ use Rattle.rs_table.specs.Codes.{tables_code}
 use Rattle.rs_table.specs.Content.{TablesContent, rib_left}
 use Rattle.rs_update.specs.declared.errors.Errors.{Errors}
 use Rattle.rs_mrt.specs.Reader.{ReadEnd}
+use Rattle.rs_mrt.specs.Record.{MrtRecord}
 use Rattle.rs_serve.specs.Identity.{id_of}
 use Rattle.rs_serve.specs.declared.ended.PeerEnd.{PeerEnd}
 
@@ -62,6 +65,26 @@ pub record IsServed (errors : Errors) (plan : Plan) (files : List (List ℕ)) (s
 abbrev pub IsServedBy : {R : Type 0} → (R → List ℕ → ReadEnd → Type 0) → Errors → Plan → List R → ServedContent → Type 0
 IsServedBy gives errors plan readers served =
     OverGivenFiles gives errors (map id_of plan.peers) readers (λ files. IsServed errors plan files served)
+
+-- how a session ends that tells this: by its last change, which is the close
+pub record IsEndOfTold (told : Told) (end : PeerEnd) : Type 0 where
+  pub changes_are : end.changes ≡ length told.changes
+  pub passed_are : end.passed ≡ told.passed
+  pub closes : ClosesFor told.changes end.reason
+
+-- the tables depend on what the sessions tell alone, and each session ended as it tells
+pub record IsServedAs (plan : Plan) (all : List Told) (served : ServedContent) : Type 0 where
+  pub tables_are : served.tables ≡ tables_of plan (map (λ told. told.changes) all)
+  pub counted : length served.ends ≡ length plan.peers
+  pub ends_are : (place : ℕ) (told : Told) (end : PeerEnd)
+      → slice_get all place ≡ Some told → slice_get served.ends place ≡ Some end
+      → IsEndOfTold told end
+
+-- there is for each peer what its session over the source may tell, and the result is that of all these
+abbrev pub IsServedOver : {S : Type 0} → Comes S → (S → Option MrtRecord) → Errors → Plan → List S → ServedContent
+    → Type 0
+IsServedOver comes shows errors plan sources served =
+    OverTold comes shows errors (map id_of plan.peers) sources (λ all. IsServedAs plan all served)
 
 -- whether this number of shards is allowed
 abbrev pub is_shard_count : ℕ → Bool

@@ -15,7 +15,7 @@ ghost use Rattle.rs_router.specs.ShardParts.{IsShardCount};
 ghost use Rattle.rs_table.specs.Codes.{rib_code};
 ghost use Rattle.rs_serve.specs.Crew as of_shards;
 ghost use Rattle.rs_worker.specs.Crew.{charge_of, charged};
-ghost use Rattle.rs_serve.specs.Lines.{AreLines, AreRings, CanShare, CanWork, HaveRoom, IsReadyJob};
+ghost use Rattle.rs_serve.specs.Lines.{AreLines, AreRings, CanShare, CanWork, HaveRoom, HasFewOctets};
 ghost use Rattle.rs_serve.specs.Lines.{RingsHaveRoom};
 ghost use Rattle.rs_serve.specs.Run.{HasRun};
 
@@ -24,7 +24,7 @@ use crate::rings::{Rings, open_rings};
 use crate::shard::ShardEnd;
 use crate::shard_crew::{ShardJob, ShardOf, join_shards, start_shards};
 use rs_choice::Exchange;
-use rs_mrt::{Read, RecordReader};
+use rs_mrt::Source;
 use rs_ring::{Receiver, Sender};
 use rs_router::{Routed, route};
 use rs_session::Word;
@@ -38,8 +38,8 @@ use std::thread::{Promise, PromisedHandle, Scope, Threads};
 
 // Room for what is known of each thread: its handle, and what it leaves.
 #[derive(Drop)]
-struct Room<R: Read> {
-    workers: Vec<PromisedHandle<WorkerEnd, WorkerOf<RecordReader<R>>>>,
+struct Room<S: Source> {
+    workers: Vec<PromisedHandle<WorkerEnd, WorkerOf<S>>>,
     shards: Vec<PromisedHandle<ShardEnd, ShardOf>>,
     ends: Vec<Joined>,
     parts: Vec<Tables>,
@@ -48,10 +48,10 @@ struct Room<R: Read> {
 // All that takes memory before the first thread starts: the rings, what each shard gathers changes in, and room for
 // what is known of each thread. Nothing was sent or received.
 #[derive(Drop)]
-pub(crate) struct Crew<R: Read> {
-    pub(crate) lines: Lines<R>,
+pub(crate) struct Crew<S: Source> {
+    pub(crate) lines: Lines<S>,
     pub(crate) rings: Rings,
-    room: Room<R>,
+    room: Room<S>,
     ghost can_work: { CanWork lines.jobs.items lines.from.items },
     ghost can_share: { CanShare rings.jobs.items rings.to.items } by { Prim.hlevel (props, codes, rib_code) },
     ghost few: { length lines.jobs.items ≤ 256 },
@@ -76,9 +76,9 @@ pub(crate) struct Ran {
     pub(crate) whole: bool,
 }
 
-impl<R: Read + Drop> Room<R> {
+impl<S: Source + Drop> Room<S> {
     // Room for so many peers and shards. It fails if memory is refused.
-    fn new(alloc: Global, peers: usize, shards: usize) -> Result<Room<R>, AllocError>
+    fn new(alloc: Global, peers: usize, shards: usize) -> Result<Room<S>, AllocError>
         ensures room_for_handles { IfOk result (λ room. (peers ≤ vec_capacity room.workers)
             × (shards ≤ vec_capacity room.shards)) }
         ensures room_for_ends { IfOk result (λ room. (peers ≤ vec_capacity room.ends)
@@ -96,65 +96,67 @@ impl<R: Read + Drop> Room<R> {
     }
 }
 
-impl<R: Read + Drop> Crew<R> {
+impl<S: Source + Drop> Crew<S> {
     // Takes all memory that a run needs before its first thread starts: rings of this capacity, one for each peer, and
     // one for each of so many shards. It fails if memory is refused.
     pub(crate) fn new(
         alloc: Global,
         plan: &Arc<Exchange>,
-        readers: Vec<R>,
+        sources: Vec<S>,
         capacity: usize,
         shards: usize,
-    ) -> Result<Crew<R>, AllocError>
-        requires as_many { length readers.items ≡ length plan.now.value.peers }
-        requires failures { All (λ reader. R.failures reader < u64.MAX) readers.items }
+    ) -> Result<Crew<S>, AllocError>
+        requires as_many { length sources.items ≡ length plan.now.value.peers }
         requires capacity { is_capacity capacity ≡ true }
         requires shards { IsShardCount shards }
         ensures lines { IfOk result (λ crew.
-            AreLines R.gives plan.now.value readers.items crew.lines.jobs.items crew.lines.from.items) }
+            AreLines plan.now.value sources.items crew.lines.jobs.items crew.lines.from.items) }
         ensures rings { IfOk result (λ crew. AreRings plan.now.value crew.rings.jobs.items crew.rings.to.items) }
         ensures count { IfOk result (λ crew. length crew.rings.jobs.items ≡ shards) }
-        ensures room { IfOk result (λ crew. HaveRoom capacity crew.lines.jobs.items
+        ensures capacity { IfOk result (λ crew. HaveRoom capacity crew.lines.jobs.items
             × RingsHaveRoom capacity crew.rings.to.items) }
     {
         let room = Room::new(alloc, plan.count(), shards)?;
-        let lines = open_lines(alloc, plan, readers, capacity)?;
+        let lines = open_lines(alloc, plan, sources, capacity)?;
         let rings = open_rings(alloc, plan, capacity, shards)?;
         Ok(Crew { lines, rings, room })
     }
 }
 
 // Runs all threads of a crew in a scope of their own, and joins them. None if the system refuses one.
-pub(crate) fn run<T: Threads + Wait + Sync, R: Read + Send + Drop, G: Gate>(
+pub(crate) fn run<T: Threads + Wait + Sync, S: Source + Send + Drop, G: Gate>(
     rt: &T,
     alloc: Global,
-    crew: Crew<R>,
+    crew: Crew<S>,
     errors: Errors,
     gate: &G,
 ) -> Option<Ran>
-    ensures { IfSome result (λ ran. HasRun R.gives (map (charge_of errors) crew.lines.jobs.items)
+    requires { All (HasFewOctets S.room) crew.lines.jobs.items }
+    ensures { IfSome result (λ ran. HasRun S.comes S.shows (map (charge_of errors) crew.lines.jobs.items)
         (map of_shards.charge_of crew.rings.jobs.items) ran.ends.items ran.parts.items ran.whole) }
 {
     thread::scope(
         thread::scope_env(),
         rt,
         |scope| -> Option<Ran>
-            ensures { IfSome result (λ ran. HasRun R.gives (map (charge_of errors) crew.lines.jobs.items)
+            requires { All (HasFewOctets S.room) crew.lines.jobs.items }
+            ensures { IfSome result (λ ran. HasRun S.comes S.shows (map (charge_of errors) crew.lines.jobs.items)
                 (map of_shards.charge_of crew.rings.jobs.items) ran.ends.items ran.parts.items ran.whole) }
         { run_in(scope, rt, alloc, crew, errors, gate) },
     )
 }
 
 // Runs all threads in a scope, and joins them. None if the system refuses one.
-fn run_in<'s, E, T: Threads + Wait + Sync, R: Read + Send + Drop + 's, G: Gate>(
+fn run_in<'s, E, T: Threads + Wait + Sync, S: Source + Send + Drop + 's, G: Gate>(
     scope: &'s Scope<'s, E>,
     rt: &'s T,
     alloc: Global,
-    crew: Crew<R>,
+    crew: Crew<S>,
     errors: Errors,
     gate: &'s G,
 ) -> Option<Ran>
-    ensures { IfSome result (λ ran. HasRun R.gives (map (charge_of errors) crew.lines.jobs.items)
+    requires { All (HasFewOctets S.room) crew.lines.jobs.items }
+    ensures { IfSome result (λ ran. HasRun S.comes S.shows (map (charge_of errors) crew.lines.jobs.items)
         (map of_shards.charge_of crew.rings.jobs.items) ran.ends.items ran.parts.items ran.whole) }
 {
     let Crew { lines, rings, room } = crew;
@@ -185,18 +187,18 @@ fn run_in<'s, E, T: Threads + Wait + Sync, R: Read + Send + Drop + 's, G: Gate>(
 
 // Starts all threads, and keeps their handles. Answers whether all were started. If the system refuses a thread, the
 // handles are those of the first threads.
-fn start<'s, E, T: Threads + Wait + Sync, R: Read + Send + Drop + 's, G: Gate>(
+fn start<'s, E, T: Threads + Wait + Sync, S: Source + Send + Drop + 's, G: Gate>(
     scope: &'s Scope<'s, E>,
     rt: &'s T,
     alloc: Global,
-    jobs: Vec<Job<RecordReader<R>>>,
+    jobs: Vec<Job<S>>,
     shard_jobs: Vec<ShardJob>,
     errors: Errors,
     gate: &'s G,
-    workers: &mut Vec<PromisedHandle<WorkerEnd, WorkerOf<RecordReader<R>>>>,
+    workers: &mut Vec<PromisedHandle<WorkerEnd, WorkerOf<S>>>,
     shards: &mut Vec<PromisedHandle<ShardEnd, ShardOf>>,
 ) -> bool
-    requires ready { All IsReadyJob jobs.items × All of_shards.IsReady shard_jobs.items }
+    requires ready { All (λ job. (job.out.sent ≡ []) × HasFewOctets S.room job) jobs.items × All of_shards.IsReady shard_jobs.items }
     requires room { (vec_len jobs ≤ vec_capacity workers.old)
         × (vec_len shard_jobs ≤ vec_capacity shards.old) }
     requires no_handles { (workers.old.items ≡ []) × (shards.old.items ≡ []) }
@@ -214,9 +216,9 @@ fn start<'s, E, T: Threads + Wait + Sync, R: Read + Send + Drop + 's, G: Gate>(
 }
 
 // Routes all changes, and joins all threads.
-fn join_all<T: Threads + Wait, R: Read>(
+fn join_all<T: Threads + Wait, S: Source>(
     rt: &T,
-    room: Room<R>,
+    room: Room<S>,
     from: Vec<Receiver<Word>>,
     to: Vec<Sender<Routed>>,
 ) -> Ran
@@ -231,7 +233,7 @@ fn join_all<T: Threads + Wait, R: Read>(
     requires no_ends { (room.ends.items ≡ []) × (room.parts.items ≡ []) }
     requires room_for_ends { vec_len room.workers ≤ vec_capacity room.ends }
     requires room_for_parts { vec_len room.shards ≤ vec_capacity room.parts }
-    ensures { HasRun R.gives (map (λ handle. charged handle.promise) room.workers.items)
+    ensures { HasRun S.comes S.shows (map (λ handle. charged handle.promise) room.workers.items)
         (map (λ handle. of_shards.charged handle.promise) room.shards.items)
         result.ends.items result.parts.items result.whole }
 {
@@ -252,9 +254,9 @@ fn join_all<T: Threads + Wait, R: Read>(
 }
 
 // Drains the rings of the workers that were started, sends the last item to each shard that was, and joins them.
-fn give_up<T: Threads + Wait, R: Read>(
+fn give_up<T: Threads + Wait, S: Source>(
     rt: &T,
-    room: Room<R>,
+    room: Room<S>,
     from: &mut [Receiver<Word>],
     to: &mut [Sender<Routed>],
 )

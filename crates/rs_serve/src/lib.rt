@@ -6,7 +6,7 @@
 //!
 //! Reading order, the shards: `part_laws` (what the part of a list leaves), `taking` (what one item makes of the
 //! tables), `shard` (all items), `shard_crew` (all shards), `laws` (what their tables come to). Before a run:
-//! `identity` (who a peer is), `at_hand` (readers of files), `capacity` (of rings), `lines` and `rings` (what each
+//! `identity` (who a peer is), `at_hand` (readers of files, and their records), `capacity` (of rings), `lines` and `rings` (what each
 //! thread takes). Then its threads: `crew` (their start and join). Then its end: `outcome` (how a run ended), `ended`
 //! and `served` (what it leaves). Last `serving` (a whole run) and `fault` (why a run is refused).
 #![tactic(auto)]
@@ -28,7 +28,7 @@ mod shard;
 mod shard_crew;
 mod taking;
 
-pub use at_hand::readers_of;
+pub use at_hand::{readers_of, record_readers};
 pub use capacity::has_room;
 pub use ended::PeerEnd;
 pub use fault::FloorRefused;
@@ -39,6 +39,6 @@ pub use part_laws::parts_by_shards;
 pub use rs_router::{MAX_SHARDS, Routed, route, shard_of};
 pub use rs_worker::{Gate, Open};
 pub use served::Served;
-pub use serving::serve_by;
+pub use serving::{serve_by, serve_sources};
 pub use shard::{ShardEnd, shard_worker};
 pub use shard_crew::{ShardJob, ShardOf, join_shards, start_shards};

@@ -1,15 +1,16 @@
 //! A run on threads: one for each peer's recorded session, and one for each shard of the tables.
 
 ghost use Rattle.std.specs.List.{list_any, position};
-ghost use Rattle.std.specs.Prelude.{◌≡◌, ◌<◌, All, IfErr, IfOk, IsTrue, length, map, not};
+ghost use Rattle.std.specs.Prelude.{◌≡◌, ◌<◌, ◌≤◌, ◌^◌, All, IfErr, IfOk, IsTrue, OnOk, length, map, not};
 ghost use Rattle.rs_session.specs.Change.{is_read};
 ghost use Rattle.rs_worker.specs.Worked as spec;
 ghost use Rattle.rs_serve.specs.Run.{CanMerge, IsAnswer, IsRefusal, IsVerdictOn, end_of};
 ghost use Rattle.rs_serve.specs.Run.{is_out_of_memory};
 ghost use Rattle.rs_router.specs.ShardParts.{IsShardCount};
-ghost use Rattle.rs_serve.specs.ServeAnswer.{ServeAnswer};
+ghost use Rattle.rs_serve.specs.ServeAnswer.{AreBeyondLimits, ServeAnswer, ServeSourcesAnswer, WithinLimits};
 ghost use Rattle.rs_serve.specs.Served.{is_shard_count};
 
+use crate::at_hand::record_readers;
 use crate::capacity::has_room;
 use crate::crew::{Crew, Ran, run};
 use crate::ended::PeerEnd;
@@ -18,9 +19,11 @@ use crate::laws::{run_shards_are_whole, shards_merge};
 use crate::outcome::verdict_by;
 use crate::served::Served;
 use rs_choice::Exchange;
-use rs_mrt::Read;
+use rs_mrt::{Read, Source};
 use rs_router::MAX_SHARDS;
-use rs_session::{Reason, a_failed_read_closes_last, a_session_closes_once};
+use rs_session::{
+    Reason, a_failed_read_closes_last, a_reader_gives_a_file_or_fails, a_session_closes_once,
+};
 use rs_table::Tables;
 use rs_update::Errors;
 use rs_worker::{Gate, Joined};
@@ -55,21 +58,73 @@ pub fn serve_by<T: Threads + Wait + Sync, R: Read + Send + Drop, G: Gate>(
     requires failures { All (λ reader. R.failures reader < u64.MAX) readers.items }
     ensures answer { ServeAnswer R.gives errors plan.now.value readers.items capacity shards result }
 {
+    a_failed_read_closes_last();
+    a_reader_gives_a_file_or_fails::<R>();
+    a_session_closes_once();
+    test_limits(capacity, shards)?;
+    let sources = record_readers(alloc, readers)?;
+    serve_within(rt, alloc, plan, sources, capacity, shards, errors, gate)
+}
+
+/// `serve_by` over sources of records: `sources` has that of each peer's recording, in the order of the peers. Each may
+/// show at most 2^50 octets.
+pub fn serve_sources<T: Threads + Wait + Sync, S: Source + Send + Drop, G: Gate>(
+    rt: &T,
+    alloc: Global,
+    plan: &Arc<Exchange>,
+    sources: Vec<S>,
+    capacity: usize,
+    shards: usize,
+    errors: Errors,
+    gate: &G,
+) -> Result<Served, FloorRefused>
+    requires as_many { length sources.items ≡ length plan.now.value.peers }
+    requires room { All (λ source. S.room source ≤ 2 ^ 50) sources.items }
+    ensures answer { ServeSourcesAnswer S.comes S.shows errors plan.now.value sources.items capacity shards result }
+{
+    test_limits(capacity, shards)?;
+    serve_within(rt, alloc, plan, sources, capacity, shards, errors, gate)
+}
+
+// The same within the limits of capacity and shards.
+fn serve_within<T: Threads + Wait + Sync, S: Source + Send + Drop, G: Gate>(
+    rt: &T,
+    alloc: Global,
+    plan: &Arc<Exchange>,
+    sources: Vec<S>,
+    capacity: usize,
+    shards: usize,
+    errors: Errors,
+    gate: &G,
+) -> Result<Served, FloorRefused>
+    requires as_many { length sources.items ≡ length plan.now.value.peers }
+    requires room { All (λ source. S.room source ≤ 2 ^ 50) sources.items }
+    requires limits { WithinLimits capacity shards }
+    requires count { IsShardCount shards }
+    ensures answer { ServeSourcesAnswer S.comes S.shows errors plan.now.value sources.items capacity shards result }
+{
+    run_shards_are_whole();
+    shards_merge();
+    let crew = Crew::new(alloc, plan, sources, capacity, shards)?;
+    match run(rt, alloc, crew, errors, gate) {
+        Some(ran) => settle(alloc, ran),
+        None => Err(FloorRefused::Memory),
+    }
+}
+
+// Refuses a capacity or a number of shards that is not within its limits.
+fn test_limits(capacity: usize, shards: usize) -> Result<(), FloorRefused>
+    ensures within { OnOk result (WithinLimits capacity shards) }
+    ensures count { OnOk result (IsShardCount shards) }
+    ensures refused { IfErr result (AreBeyondLimits capacity shards) }
+{
     if !has_room(capacity) {
         return Err(FloorRefused::Capacity);
     }
     if !has_place(shards) {
         return Err(FloorRefused::Shards);
     }
-    a_failed_read_closes_last();
-    a_session_closes_once();
-    run_shards_are_whole();
-    shards_merge();
-    let crew = Crew::new(alloc, plan, readers, capacity, shards)?;
-    match run(rt, alloc, crew, errors, gate) {
-        Some(ran) => settle(alloc, ran),
-        None => Err(FloorRefused::Memory),
-    }
+    Ok(())
 }
 
 // Whether there may be so many shards.

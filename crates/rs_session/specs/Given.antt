@@ -13,6 +13,28 @@ use Rattle.rs_session.specs.FileChanges.{ends, changes_of, passed_of, changes_in
 use Rattle.rs_session.specs.declared.peer.PeerId.{PeerId}
 use Rattle.rs_update.specs.declared.errors.Errors.{Errors}
 
+-- ---- one for each peer
+
+-- each member of the last list is so for the peer and the reader at its place
+pub record AreEach {R D : Type 0} (Is : PeerId → R → D → Type 0) (peers : List PeerId) (readers : List R)
+    (all : List D) : Type 0 where
+  pub as_many : length all ≡ length readers
+  pub each : (place : ℕ) (peer : PeerId) (reader : R) (one : D) → slice_get peers place ≡ Some peer
+      → slice_get readers place ≡ Some reader → slice_get all place ≡ Some one → Is peer reader one
+
+-- the reader at this place may fail, and there is a member for each reader before it
+pub record FailsFirstAt {R D : Type 0} (Is : PeerId → R → D → Type 0) (Fails : PeerId → R → Type 0)
+    (peers : List PeerId) (readers : List R) (place : ℕ) : Type 0 where
+  pub peer : PeerId
+  pub reader : R
+  pub before_it : List D
+  pub peer_is : slice_get peers place ≡ Some peer
+  pub reader_is : slice_get readers place ≡ Some reader
+  pub fails : Fails peer reader
+  pub before : AreEach Is (take place peers) (take place readers) before_it
+
+-- ---- files
+
 -- whether some record in these octets ends the session of the peer: because a message is at fault, or the record is
 abbrev pub has_end : Errors → PeerId → List ℕ → Bool
 has_end errors peer octets = list_any (λ r. ends (effect_of errors peer r)) (records_of octets)
@@ -74,22 +96,13 @@ module _ {R : Type 0} (gives : R → List ℕ → ReadEnd → Type 0) (errors : 
   -- ---- a reader for each peer
 
   -- each reader may give the file of its peer
-  pub record AreGiven (peers : List PeerId) (readers : List R) (files : List (List ℕ)) : Type 0 where
-    pub as_many : length files ≡ length readers
-    pub each : (place : ℕ) (peer : PeerId) (reader : R) (file : List ℕ)
-        → slice_get peers place ≡ Some peer → slice_get readers place ≡ Some reader
-        → slice_get files place ≡ Some file → IsGiven peer reader file
+  abbrev pub AreGiven : List PeerId → List R → List (List ℕ) → Type 0
+  AreGiven = AreEach IsGiven
 
   -- there are files that the readers may give, one for each peer, for which the statement is true
   abbrev pub OverGivenFiles : List PeerId → List R → (List (List ℕ) → Type 0) → Type 0
   OverGivenFiles peers readers Holds = (files : List (List ℕ)) × AreGiven peers readers files × Holds files
 
   -- the reader at this place may fail, and the readers before it may give files
-  pub record MayFailAt (peers : List PeerId) (readers : List R) (place : ℕ) : Type 0 where
-    pub peer : PeerId
-    pub reader : R
-    pub files : List (List ℕ)
-    pub peer_is : slice_get peers place ≡ Some peer
-    pub reader_is : slice_get readers place ≡ Some reader
-    pub fails : MayFail peer reader
-    pub before : AreGiven (take place peers) (take place readers) files
+  abbrev pub MayFailAt : List PeerId → List R → ℕ → Type 0
+  MayFailAt = FailsFirstAt IsGiven MayFail

@@ -7,6 +7,7 @@ pub mod Given  -- files as readers give them
 pub mod Laws  -- what holds of all of these
 -- How a session is read:
 pub mod Stage  -- a session that is being read
+pub mod Told  -- what a session over a source may tell
 pub mod Steps  -- one step of it
 pub mod Concerning  -- what is passed over where one prefix is asked for
 pub mod Counts  -- records counted

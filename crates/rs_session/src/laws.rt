@@ -28,11 +28,11 @@ pub fn something_may_come<S: Source>(_session: &Session<S>)
     ensures { SomethingMayCome S.comes S.shows _session.now }
 {}
 
-/// A session over a `RecordReader` gives one of two lists of changes. Either they are those of a file that the
-/// reader may give, which is read as far as the record that closes the session. Or a read failed: then they
-/// are the changes of the whole records that came, and a close that says so.
-pub fn a_reader_gives_a_file_or_fails<R: Read>(_reader: &R)
-    ensures { GivesFileOrFails R.gives _reader.now }
+/// A session over a `RecordReader` gives one of two lists of changes, whichever its reader is. Either they are those of a
+/// file that the reader may give, which is read as far as the record that closes the session. Or a read failed: then
+/// they are the changes of the whole records that came, and a close that says so.
+pub fn a_reader_gives_a_file_or_fails<R: Read>()
+    ensures { (reader : R) → GivesFileOrFails R.gives reader }
 {
     front_of_a_record_says_the_same();
 }

@@ -1,14 +1,13 @@
--- A run, from the start of its threads to their join: for crew.rt, `open_lines` of lines.rt, and `serve_by` and `serve` of serving.rt.
+-- A run, from the start of its threads to their join: for crew.rt, and `serve_within` of serving.rt.
 use mathlib.Core.List.{IsPrefix, map-map}
-use Rattle.std.proofs.Common.{◌≡◌, ◌∙◌, sym, ap, ℕ, ◌≤◌, arith, Result, Ok, Err, Bool, true, false, List, [], ◌++◌, length, map, get_or}
+use Rattle.std.proofs.Common.{◌≡◌, ◌∙◌, sym, ap, ℕ, ◌≤◌, ◌^◌, All, arith, Option, Result, Ok, Err, Bool, true, false, List, [], ◌++◌, length, map, get_or}
 use Rattle.std.proofs.Common.{append-nil, length-append}
-use Rattle.std.specs.Prelude.{IfErr, IfOk}
+use Rattle.std.specs.Prelude.{IfErr, IfOk, slice_get}
 use Rattle.std.proofs.lemmas.List.{length-map, nil_from_length}
 use Rattle.std.proofs.lemmas.List.Elements.{All-map}
 use Rattle.std.proofs.lemmas.Option.{slice_get-get_or, slice_get_within}
 use Rattle.rs_choice.specs.Plan.{Plan}
-use Rattle.rs_mrt.specs.Reader.{ReadEnd}
-use Rattle.rs_mrt.specs.RecordReading.{RecordReading, MayCome}
+use Rattle.rs_mrt.specs.Record.{MrtRecord}
 use Rattle.rs_ring.specs.Ends.{Receiving, Sending}
 use Rattle.rs_router.specs.Routing.{AreClosed, AreShardParts, received_lists}
 use Rattle.rs_router.specs.declared.routed.Routed.{Routed}
@@ -18,20 +17,20 @@ use Rattle.rs_serve.specs.Crew.{AllHold}
 use Rattle.rs_serve.specs.Laws.{IsOfPlan, AreShardsOf, IsRun, RunShardsAreWhole, ShardsMerge}
 use Rattle.rs_serve.specs.declared.shard_crew.ShardJob.{ShardJob}
 use Rattle.rs_session.specs.Change.{is_read}
-use Rattle.rs_session.specs.Laws.{ClosesOnce, FailedReadCloses}
+use Rattle.rs_session.specs.Stage.{Comes}
 use Rattle.rs_table.specs.Content.{TablesContent}
 use Rattle.rs_update.specs.declared.errors.Errors.{Errors}
 use Rattle.rs_worker.specs.Crew.{AllJoined, Charge, charge_of}
 use Rattle.rs_worker.specs.declared.crew.Job.{Job}
 use Rattle.rs_worker.specs.declared.crew.Joined.{Joined}
 use Rattle.rs_serve.specs.Identity.{id_of}
-use Rattle.rs_serve.specs.Lines.{AreLines, AreRings}
+use Rattle.rs_serve.specs.Lines.{AreLines, AreRings, HasFewOctets}
 use Rattle.rs_serve.specs.Run.{HasRun, CanMerge, IsAnswer, IsRefusal}
-use Rattle.rs_serve.specs.ServeAnswer.{ServeAnswer, WithinLimits}
-use Rattle.rs_serve.specs.Served.{ServedContent, IsServedBy}
+use Rattle.rs_serve.specs.ServeAnswer.{ServeSourcesAnswer, WithinLimits}
+use Rattle.rs_serve.specs.Served.{ServedContent, IsServedOver}
 use Rattle.rs_serve.specs.declared.fault.FloorRefused.{FloorRefused}
 use Rattle.rs_serve.specs.declared.fault.FloorRefused.TheVariants.{Memory, Capacity, Read, Shards, Unsettled}
-use Rattle.rs_patience.proofs.PlaceLemmas.{all-at, same-counted}
+use Rattle.rs_patience.proofs.PlaceLemmas.{all-at, get-map, same-counted}
 use Rattle.rs_serve.proofs.serving.AllServedLemmas.{all-served, fails-first, within-peers}
 
 -- a beginning that is as long is the whole
@@ -61,15 +60,15 @@ rings-of charged charge ring end handles jobs before after same rings kept =
     sym (map-map ring charged handles) ∙ ap (map ring) same ∙ map-map ring charge jobs ∙ rings ∙ sym kept
 
 -- all were joined
-pub has-run : {R : Type 0} (gives : R → List ℕ → ReadEnd → Type 0) (workers : List (Charge (RecordReading R)))
+pub has-run : {S : Type 0} (comes : Comes S) (shows : S → Option MrtRecord) (workers : List (Charge S))
     (of_shards : List shards.Charge) (routed joined : List (Receiving Word)) (sent : List (List Routed))
     (ends : List Joined) (parts : List TablesContent) (whole : Bool)
     → AreClosed (received_lists routed) → AreShardParts (received_lists routed) sent
     → map (λ receiver. receiver.received) joined ≡ map (λ receiver. receiver.received) routed
     → length routed ≡ length workers → length sent ≡ length of_shards → length ends ≡ length workers
-    → AllJoined (MayCome gives) (λ reading. reading.shown) workers joined ends → (whole ≡ true → AllHold of_shards sent parts)
-    → HasRun gives workers of_shards ends parts whole
-has-run gives workers of_shards routed joined sent ends parts whole closed shard_parts same counted sizes ended known held = record {
+    → AllJoined comes shows workers joined ends → (whole ≡ true → AllHold of_shards sent parts)
+    → HasRun comes shows workers of_shards ends parts whole
+has-run comes shows workers of_shards routed joined sent ends parts whole closed shard_parts same counted sizes ended known held = record {
   receivers = joined;
   sent = sent;
   closed = rw same closed;
@@ -81,13 +80,21 @@ has-run gives workers of_shards routed joined sent ends parts whole closed shard
   held = held;
 }
 
-module _ {R : Type 0} (gives : R → List ℕ → ReadEnd → Type 0) (errors : Errors) (plan : Plan) (readers : List R)
-    (jobs : List (Job (RecordReading R))) (lines : List (Receiving Word))
+-- the jobs' sources have no more octets than a session reads
+pub few-octets : {S : Type 0} (room : S → ℕ) (plan : Plan) (sources : List S) (jobs : List (Job S)) (lines : List (Receiving Word))
+    → AreLines plan sources jobs lines → All (λ source. room source ≤ 2 ^ 50) sources → All (HasFewOctets room) jobs
+few-octets {S} room plan sources jobs lines are few = λ place d below.
+    let job_at = slice_get-get_or jobs place d below in
+    all-at (λ (source : S). room source ≤ 2 ^ 50) sources few place (get_or jobs place d).source
+    (sym (ap (λ (ss : List S). slice_get ss place) are.sources_are) ∙ get-map (λ (j : Job S). j.source) jobs place (get_or jobs place d) job_at)
+
+module _ {S : Type 0} (comes : Comes S) (shows : S → Option MrtRecord) (errors : Errors) (plan : Plan) (sources : List S)
+    (jobs : List (Job S)) (lines : List (Receiving Word))
     (of_shards : List ShardJob) (senders : List (Sending Routed)) (ends : List Joined) (parts : List TablesContent) (whole : Bool)
-    (are : AreLines gives plan readers jobs lines) (rings : AreRings plan of_shards senders)
-    (run : HasRun gives (map (charge_of errors) jobs) (map shards.charge_of of_shards) ends parts whole) where
+    (are : AreLines plan sources jobs lines) (rings : AreRings plan of_shards senders)
+    (run : HasRun comes shows (map (charge_of errors) jobs) (map shards.charge_of of_shards) ends parts whole) where
   peers-counted : length jobs ≡ length plan.peers
-  peers-counted = same-counted (λ (job : Job (RecordReading R)). job.id) id_of jobs plan.peers are.peers
+  peers-counted = same-counted (λ (job : Job S). job.id) id_of jobs plan.peers are.peers
 
   is-run : whole ≡ true → IsRun plan (received_lists run.receivers) run.sent (map shards.charge_of of_shards) parts
   is-run is = record {
@@ -117,39 +124,38 @@ module _ {R : Type 0} (gives : R → List ℕ → ReadEnd → Type 0) (errors : 
             ∙ sym (run.joined ∙ length-map jobs (charge_of errors) ∙ peers-counted);
       }
 
-  -- and then they are what the files leave
-  pub run-served : RunShardsAreWhole → ShardsMerge → FailedReadCloses → (served : ServedContent) → IsAnswer ends parts whole served
-      → IsServedBy gives errors plan readers served
-  run-served law merge closes served answer =
-      all-served gives errors plan readers jobs lines of_shards ends parts whole are closes run served answer
+  -- and then they are what the sessions leave
+  pub run-served : RunShardsAreWhole → ShardsMerge → (served : ServedContent) → IsAnswer ends parts whole served
+      → IsServedOver comes shows errors plan sources served
+  run-served law merge served answer =
+      all-served comes shows errors plan sources jobs lines of_shards ends parts whole are run served answer
       ((merge plan (received_lists run.receivers) parts (whole-shards law answer.whole_is)).1 served.tables answer.merged
       answer.one_for_each)
 
   -- what a run answers of which all threads were joined
-  pub run-answers : (capacity of_shard : ℕ) → WithinLimits capacity of_shard → RunShardsAreWhole → ShardsMerge → ClosesOnce
-      → FailedReadCloses
+  pub run-answers : (capacity of_shard : ℕ) → WithinLimits capacity of_shard → RunShardsAreWhole → ShardsMerge
       → (result : Result ServedContent FloorRefused) → IfOk result (IsAnswer ends parts whole) → IfErr result (IsRefusal ends whole)
-      → ServeAnswer gives errors plan readers capacity of_shard result
-  run-answers capacity of_shard within law merge once closes (Ok served) answer refused =
-      (within, run-served law merge closes served answer)
-  run-answers capacity of_shard within law merge once closes (Err Memory) answer refused = within
-  run-answers capacity of_shard within law merge once closes (Err Capacity) answer refused = absurd refused
-  run-answers capacity of_shard within law merge once closes (Err Shards) answer refused = absurd refused
-  run-answers capacity of_shard within law merge once closes (Err (Read peer)) answer refused = (
+      → ServeSourcesAnswer comes shows errors plan sources capacity of_shard result
+  run-answers capacity of_shard within law merge (Ok served) answer refused =
+      (within, run-served law merge served answer)
+  run-answers capacity of_shard within law merge (Err Memory) answer refused = within
+  run-answers capacity of_shard within law merge (Err Capacity) answer refused = absurd refused
+  run-answers capacity of_shard within law merge (Err Shards) answer refused = absurd refused
+  run-answers capacity of_shard within law merge (Err (Read peer)) answer refused = (
     within,
     (
-      within-peers gives errors plan readers jobs lines of_shards ends parts whole are closes run peer
+      within-peers comes shows errors plan sources jobs lines of_shards ends parts whole are run peer
           (omega (
             arith,
             slice_get_within (map (λ (end : Joined). is_read end.reason) ends) peer true refused.least.has,
             length-map ends (λ (end : Joined). is_read end.reason),
           )),
-      fails-first gives errors plan readers jobs lines of_shards ends parts whole are closes run once peer refused,
+      fails-first comes shows errors plan sources jobs lines of_shards ends parts whole are run peer refused,
     ),
   )
-  run-answers capacity of_shard within law merge once closes (Err (Unsettled peer)) answer refused = (
+  run-answers capacity of_shard within law merge (Err (Unsettled peer)) answer refused = (
     within,
-    within-peers gives errors plan readers jobs lines of_shards ends parts whole are closes run peer
+    within-peers comes shows errors plan sources jobs lines of_shards ends parts whole are run peer
         (omega (
           arith,
           slice_get_within (map (λ (end : Joined). end.settled) ends) peer false refused.least.has,

@@ -56,7 +56,7 @@ returns g c =
     let says = rw c.in_default.is at c.in_ok-word.ensures.says in
     let r = c.loop-routes.invariant in
     let all = given-all (MayCome g.R.Read.gives) (λ r. r.shown) _ g.R.Read.gives question c.args.id c.args.reader
-    (c.a_reader_gives_a_file_or_fails.ensures question.errors c.args.id)
+    (c.a_reader_gives_a_file_or_fails.ensures c.args.reader question.errors c.args.id)
     r.given c.loop-routes.session c.next_word_on.new.self r.is_given says.says c.in_ok-word.ensures.more in
     taken-said question.prefix g.R.Read.gives question c.args.id c.args.reader refl r.given c.loop-routes.routes c.loop-routes.said
     r.is_taken all c.left_by_part.ensures c.left_by_last_changes.ensures

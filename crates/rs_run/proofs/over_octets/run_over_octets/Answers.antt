@@ -12,7 +12,7 @@ returns-in-Ok g c =
     let plan = c.args.setup.now.plan.value in
     let readers = c.in_ok-readers.readers.items in
     let are : readers ≡ map (λ file. whole_of file.now) c.args.files.now = c.in_ok-readers.ensures.files in
-    let read = c.in-Ok.ensures.answer.over_files in
+    let read = c.in-Ok.ensures.answer.over in
     record {
       dumps = octets-dumped errors plan c.args.files.now readers are read.0 read.1 c.args.options.now.time
           c.new-dumps.result.kept c.run.new.outlet.kept (ap (λ (o : outlet.InMemory). o.kept) c.new-dumps.ensures) read.2.0;

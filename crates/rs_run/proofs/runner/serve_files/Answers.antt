@@ -1,6 +1,8 @@
 -- What is served is of files that the readers may give.
 use Rattle.rs_run.proofs.EndLemmas.{served-files}
 use Rattle.rs_run.proofs.RefusalLemmas.{is-read-refusal, is-read-stop, limits-within}
+use Rattle.rs_run.specs.Recorded.{FailsAt}
+use Rattle.rs_serve.specs.Served.{IsServedBy}
 use Rattle.rs_run.proofs.runner.serve_files.Goals as goal
 
 pub returns-in-Ok-clause-served : goal.returns-in-Ok-clause-served
@@ -11,12 +13,16 @@ returns-in-Ok-clause-served g c =
 pub fault_of-requires : goal.fault_of-requires
 fault_of-requires g c =
     let options = c.args.options.now in
-    is-read-refusal g.R.Read.gives options.errors c.args.plan.now.value c.args.readers.items options.ring options.shards c.in-Err.refused
+    is-read-refusal (IsServedBy g.R.Read.gives options.errors c.args.plan.now.value c.args.readers.items)
+    (FailsAt g.R.Read.gives options.errors c.args.plan.now.value c.args.readers.items) c.args.plan.now.value
+    options.ring options.shards c.in-Err.refused
     (limits-within options.ring options.shards c.requires.ring.0 c.requires.ring.1 c.requires.shards.0 c.requires.shards.1)
     c.in-Err.ensures.answer
 
 pub returns-in-Err-clause-fault : goal.returns-in-Err-clause-fault
 returns-in-Err-clause-fault g c =
     let options = c.args.options.now in
-    is-read-stop g.R.Read.gives options.errors c.args.plan.now.value c.args.readers.items options.ring options.shards c.in-Err.refused
+    is-read-stop (IsServedBy g.R.Read.gives options.errors c.args.plan.now.value c.args.readers.items)
+    (FailsAt g.R.Read.gives options.errors c.args.plan.now.value c.args.readers.items) c.args.plan.now.value
+    options.ring options.shards c.in-Err.refused
     c.fault_of.result c.fault_of.ensures c.in-Err.ensures.answer

@@ -61,7 +61,7 @@ returns g c =
     let Holds : List (Sending Routed) → Type 0 =
     λ senders. AllHold (map (λ handle. of_shards.charged handle.promise) c.args.room.shards.items) (sent_lists senders)
     c.join_shards-whole.new.parts.items in
-    has-run g.R.Read.gives (map (λ handle. charged handle.promise) c.args.room.workers.items)
+    has-run g.S.Source.comes g.S.Source.shows (map (λ handle. charged handle.promise) c.args.room.workers.items)
     (map (λ handle. of_shards.charged handle.promise) c.args.room.shards.items) c.route.new.from c.join_workers.new.from
     (sent_lists c.route.new.to)
     c.join_workers.new.ends.items c.join_shards-whole.new.parts.items c.join_shards-whole.result

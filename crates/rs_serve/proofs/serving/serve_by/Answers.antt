@@ -1,22 +1,12 @@
--- The run is served, or the answer says why it is not.
-use Rattle.std.proofs.Common.{rules}
-use Rattle.rs_serve.proofs.serving.RunLemmas.{can-merge, run-answers}
+-- What is served over the records of readers is that of files that they may give.
+use Rattle.rs_serve.proofs.serving.FilesServedLemmas.{answers-over-files}
 use Rattle.rs_serve.proofs.serving.serve_by.Goals as goal
 
-pub settle-requires : goal.settle-requires
-settle-requires g c =
-    λ is. can-merge g.R.Read.gives c.args.errors c.args.plan.now.value c.args.readers.items c.in_ok-crew.crew.lines.jobs.items
-    c.in_ok-crew.crew.lines.from.items c.in_ok-crew.crew.rings.jobs.items c.in_ok-crew.crew.rings.to.items c.in-Some.ran.ends.items
-    c.in-Some.ran.parts.items c.in-Some.ran.whole c.in_ok-crew.ensures.lines c.in_ok-crew.ensures.rings c.in-Some.ensures
-    c.run_shards_are_whole.ensures c.shards_merge.ensures is
-
-pub returns-in-Some : goal.returns-in-Some
-returns-in-Some g c =
+pub returns : goal.returns
+returns g c =
     record {
-      answer = run-answers g.R.Read.gives c.args.errors c.args.plan.now.value c.args.readers.items c.in_ok-crew.crew.lines.jobs.items
-          c.in_ok-crew.crew.lines.from.items c.in_ok-crew.crew.rings.jobs.items c.in_ok-crew.crew.rings.to.items c.in-Some.ran.ends.items
-          c.in-Some.ran.parts.items c.in-Some.ran.whole c.in_ok-crew.ensures.lines c.in_ok-crew.ensures.rings c.in-Some.ensures
-          c.args.capacity c.args.shards (search rules, search rules)
-          c.run_shards_are_whole.ensures c.shards_merge.ensures c.a_session_closes_once.ensures c.a_failed_read_closes_last.ensures
-          c.settle.result c.settle.ensures.served c.settle.ensures.refused;
+      answer = answers-over-files g.R.Read.gives c.args.errors c.a_reader_gives_a_file_or_fails.ensures
+          c.a_failed_read_closes_last.ensures c.args.plan.now.value c.args.readers.items c.requires.as_many
+          c.a_session_closes_once.ensures c.args.capacity c.args.shards c.serve_within.result
+          (rw c.in_ok-sources.ensures.unread at c.serve_within.ensures.answer);
     }

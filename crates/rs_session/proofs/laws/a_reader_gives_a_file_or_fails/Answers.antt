@@ -4,4 +4,4 @@ use Rattle.rs_session.proofs.GivenLemmas.{gives_file_or_fails}
 use Rattle.rs_session.proofs.laws.a_reader_gives_a_file_or_fails.Goals as goal
 
 pub returns : goal.returns
-returns g c = gives_file_or_fails g.R.Read.gives c.args._reader.now (front_suffices c.front_of_a_record_says_the_same.ensures.same)
+returns g c = λ reader. gives_file_or_fails g.R.Read.gives reader (front_suffices c.front_of_a_record_says_the_same.ensures.same)
