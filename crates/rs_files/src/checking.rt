@@ -50,7 +50,7 @@ where
         Ok(octets) => octets,
         Err(fault) => return Err(Unanswered::from(Unready::by_file(alloc, fault, path))),
     };
-    match configuration_of(rt, &octets) {
+    match configuration_of(rt, path, &octets) {
         Ok(setup) => check_files(rt, &setup, query),
         Err(Unready::Setup(SetupFault::Memory)) => Err(Unanswered::Memory),
         Err(Unready::Setup(fault)) => Ok(told(
