@@ -18,9 +18,9 @@ ghost use Rattle.rs_run.specs.SessionEnd.{ends_of_files};
 
 use crate::report::add_peer_lines;
 use rs_choice::Exchange;
-use rs_host::Options;
 use rs_keep::keep_dumps;
 use rs_mrt::{Read, Write, write_all};
+use rs_options::Options;
 use rs_outlet::{Outlet, RunFault};
 use rs_serve::{FloorRefused, Open, PeerEnd, Served, serve_by};
 use rs_session::a_session_closes_once;
