@@ -1,11 +1,10 @@
 //! What a run finds that is not clean: notes on the recorded files, and sessions that closed before the end of a file.
 
-use rs_losses::Losses;
-use rs_mrt::Tail;
+use rs_mrt::{FileReading, Losses, Tail};
 use rs_notes::{
     Close, Ending, Notes, Outlines, Subject, Telling, add_filtered, notes_of, notes_on, print_texts,
 };
-use rs_options::{FileReading, Strictness};
+use rs_options::Strictness;
 use rs_run::ReasonText;
 use rs_serve::{PeerEnd, Served};
 use rs_session::Reason;

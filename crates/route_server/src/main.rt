@@ -13,9 +13,9 @@ mod findings;
 
 use crate::findings::Findings;
 use rs_host::{DONE, configuration};
-use rs_mrt::{Bounds, IoWriter, Read, Tail};
+use rs_mrt::{Bounds, FileReading, IoWriter, Read, Tail};
 use rs_notes::Outlines;
-use rs_options::{FileReading, Options, Strictness};
+use rs_options::{Options, Strictness};
 use rs_program::{
     Cleared, Counted, Ended, FolderOutlet, Progress, command_line, end, progress_on, ready_files,
     run_status,

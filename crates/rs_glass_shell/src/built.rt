@@ -3,7 +3,7 @@
 ghost use Rattle.std.specs.Prelude.{◌≡◌};
 
 use crate::known::{Known, Whose, known_of};
-use rs_losses::Losses;
+use rs_mrt::Losses;
 use rs_notes::Outlines;
 use rs_serve::Served;
 use rs_setup::Setup;

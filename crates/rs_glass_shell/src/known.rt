@@ -6,8 +6,8 @@
 
 use rs_host::{found_at, open_file};
 use rs_inventory::{Inventory, Peer, PeerRecords, read_outline};
-use rs_losses::{LossReader, Losses, Sought};
-use rs_mrt::{BoundedReader, Bounds};
+use rs_losses::{LossReader, Sought};
+use rs_mrt::{BoundedReader, Bounds, Losses};
 use rs_notes::{Contents, Outlines, Subject, Telling, contents_of, notes_of};
 use rs_opening::sought;
 use rs_setup::Setup;

@@ -11,8 +11,8 @@ use Rattle.rs_losses.specs.Losses.{loss_record}
 use Rattle.rs_losses.specs.Inserting.{Collects, ComesBehind, ComesOf, ComesUnlessEnded, EndsAtRest, GivenWith, GoesOn, Inserting, MayGive}
 use Rattle.rs_losses.specs.Inserting.{MayGiveBy, Passes, PassesOn, is_lost_before, lost, octets_with}
 use Rattle.rs_losses.specs.declared.following.Followed.{Followed}
-use Rattle.rs_losses.specs.declared.losses.Losses.{Losses}
-use Rattle.rs_losses.specs.declared.losses.Losses.TheVariants as losses
+use Rattle.rs_mrt.specs.declared.bounds.Losses.{Losses}
+use Rattle.rs_mrt.specs.declared.bounds.Losses.TheVariants as losses
 use Rattle.rs_losses.proofs.OctetLemmas.{lost-behind, with-none}
 
 -- nothing is ready

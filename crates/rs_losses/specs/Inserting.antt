@@ -10,8 +10,8 @@ use Rattle.rs_inventory.specs.declared.finding.News.{News}
 use Rattle.rs_inventory.specs.Outline.{outline_note}
 use Rattle.rs_losses.specs.Losses.{loss_record, news_of, peer_of, tells_of_loss}
 use Rattle.rs_losses.specs.declared.following.Followed.{Followed}
-use Rattle.rs_losses.specs.declared.losses.Losses.{Losses}
-use Rattle.rs_losses.specs.declared.losses.Losses.TheVariants as losses
+use Rattle.rs_mrt.specs.declared.bounds.Losses.{Losses}
+use Rattle.rs_mrt.specs.declared.bounds.Losses.TheVariants as losses
 use Rattle.rs_losses.specs.declared.losses.Sought.{Sought}
 
 -- ---- the session, record by record

@@ -13,4 +13,4 @@ mod spelling;
 
 pub use laws::{a_loss_that_is_put_in_says_just_a_loss, what_the_octets_with_losses_are};
 pub use loss_reader::LossReader;
-pub use losses::{Losses, Sought};
+pub use losses::Sought;

@@ -13,10 +13,10 @@ ghost use Rattle.rs_losses.specs.Inserting.{Collects, EndsAtRest, GoesOn, MayGiv
 ghost use Rattle.rs_losses.specs.Inserting.{PassesOn, unbegun};
 
 use crate::following::Followed;
-use crate::losses::{Losses, Sought};
+use crate::losses::Sought;
 use crate::spelling::{LOSS_LEN, loss_octets};
 use byteorder::{BigEndian, ByteOrder};
-use rs_mrt::{Failed, HEADER_LEN, Read};
+use rs_mrt::{Failed, HEADER_LEN, Losses, Read};
 use std::alloc::{AllocError, Global};
 use std::marker::Model;
 

@@ -1,14 +1,4 @@
-//! Which losses of a session are read, and whose.
-
-/// Which losses of a session are read.
-#[derive(Clone, Copy, Debug, PartialEq, Eq, Drop)]
-pub enum Losses {
-    /// Those that the recording has: the records are read as they are.
-    Recorded,
-    /// Those too that other records show: before each of these records one more stands, a change of state from
-    /// Established (RFC 4271, section 8.2.2).
-    Inferred,
-}
+//! Whose losses of a session are looked for.
 
 /// The peer whose losses are looked for.
 #[derive(Clone, Copy, Debug, PartialEq, Eq, Drop)]

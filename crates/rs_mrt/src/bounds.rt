@@ -1,4 +1,4 @@
-//! How much of a recorded file is read.
+//! How a recorded file is read: how much of it, and which losses of a session count.
 
 ghost use Rattle.std.specs.Prelude.{◌≡◌};
 ghost use Rattle.rs_mrt.specs.declared.bounds.Tail.TheVariants.{Strict};
@@ -21,6 +21,25 @@ pub struct Bounds {
     pub until: Option<u32>,
     /// What becomes of a record that the end of the file cuts short.
     pub tail: Tail,
+}
+
+/// Which losses of a session count.
+#[derive(Clone, Copy, Debug, PartialEq, Eq, Drop)]
+pub enum Losses {
+    /// Those that the recording has: the records are read as they are.
+    Recorded,
+    /// Those too that other records show: before each of these records one more stands, a change of state from
+    /// Established (RFC 4271, section 8.2.2).
+    Inferred,
+}
+
+/// How a recorded file is read.
+#[derive(Clone, Copy, Debug, PartialEq, Eq, Drop)]
+pub struct FileReading {
+    /// How much of it is read.
+    pub bounds: Bounds,
+    /// Which losses of a session count.
+    pub losses: Losses,
 }
 
 impl Bounds {

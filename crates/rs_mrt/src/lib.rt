@@ -26,7 +26,7 @@ mod window;
 
 pub use bgp4mp::{AFI_IPV4, BGP4MP, BGP4MP_ET, FRONT_LEN, MESSAGE_AS4, STATE_CHANGE_AS4, entry};
 pub use bounded_reader::BoundedReader;
-pub use bounds::{Bounds, Tail};
+pub use bounds::{Bounds, FileReading, Losses, Tail};
 pub use fault::{MrtFault, SourceFault};
 pub use inlet::READ_LIMIT;
 pub use laws::{

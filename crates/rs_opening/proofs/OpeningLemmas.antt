@@ -4,7 +4,7 @@ use Rattle.rs_choice.specs.Plan.{Plan}
 use Rattle.rs_losses.specs.Inserting.{Inserting}
 use Rattle.rs_mrt.specs.Bounded.{Bounded}
 use Rattle.rs_opening.specs.Opening.{AreReadSo, IsReadSo, sought_of}
-use Rattle.rs_options.specs.declared.options.FileReading.{FileReading}
+use Rattle.rs_mrt.specs.declared.bounds.FileReading.{FileReading}
 
 -- what stands at a place of a list with one more: what stood there, or the last one
 at-pushed : {X : Type 0} (xs : List X) (x y : X) (n : ℕ) → slice_get (xs ++ x ∷ []) n ≡ Some y → (slice_get xs n ≡ Some y)

@@ -5,7 +5,7 @@ use Rattle.rs_choice.specs.Plan.{Peer, Plan}
 use Rattle.rs_losses.specs.Inserting.{Inserting, unbegun as unbegun_with_losses}
 use Rattle.rs_losses.specs.declared.losses.Sought.{Sought}
 use Rattle.rs_mrt.specs.Bounded.{Bounded, unbegun as unbegun_within}
-use Rattle.rs_options.specs.declared.options.FileReading.{FileReading}
+use Rattle.rs_mrt.specs.declared.bounds.FileReading.{FileReading}
 
 -- ---- whose losses are looked for
 

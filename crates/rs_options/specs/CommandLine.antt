@@ -13,10 +13,10 @@ use Rattle.rs_options.specs.Standard.{standard_name}
 use Rattle.rs_mrt.specs.declared.bounds.Bounds.{Bounds}
 use Rattle.rs_mrt.specs.declared.bounds.Tail.{Tail}
 use Rattle.rs_mrt.specs.declared.bounds.Tail.TheVariants.{Strict, Lenient}
-use Rattle.rs_losses.specs.declared.losses.Losses.{Losses}
-use Rattle.rs_losses.specs.declared.losses.Losses.TheVariants.{Recorded, Inferred}
+use Rattle.rs_mrt.specs.declared.bounds.Losses.{Losses}
+use Rattle.rs_mrt.specs.declared.bounds.Losses.TheVariants.{Recorded, Inferred}
 use Rattle.rs_options.specs.declared.options.CommandLine.{CommandLine}
-use Rattle.rs_options.specs.declared.options.FileReading.{FileReading}
+use Rattle.rs_mrt.specs.declared.bounds.FileReading.{FileReading}
 use Rattle.rs_options.specs.declared.options.Options.{Options}
 use Rattle.rs_options.specs.declared.options.Strictness.{Strictness}
 use Rattle.rs_options.specs.declared.options.Strictness.TheVariants.{Off, BeforeWriting, AfterWriting}

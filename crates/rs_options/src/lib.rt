@@ -11,7 +11,7 @@ mod times;
 mod version;
 mod words;
 
-pub use options::{CommandLine, FileReading, Options, Strictness, WordsFault};
+pub use options::{CommandLine, Options, Strictness, WordsFault};
 pub use standard::standard_of;
 pub use times::read_time;
 pub use version::VERSION;

@@ -3,8 +3,7 @@
 ghost use Rattle.std.specs.Prelude.{◌≡◌};
 ghost use Rattle.rs_options.specs.declared.options.WordsFault.TheVariants.{Memory};
 
-use rs_losses::Losses;
-use rs_mrt::Bounds;
+use rs_mrt::FileReading;
 use rs_update::Errors;
 use std::alloc::AllocError;
 use thiserror::Error;
@@ -37,15 +36,6 @@ pub struct Options {
     /// The standard by which faults in the path attributes of an UPDATE are handled (RFC 4271, section 6.3,
     /// or RFC 7606).
     pub errors: Errors,
-}
-
-/// How a recorded file is read.
-#[derive(Clone, Copy, Debug, PartialEq, Eq, Drop)]
-pub struct FileReading {
-    /// How much of it is read.
-    pub bounds: Bounds,
-    /// Which losses of a session count.
-    pub losses: Losses,
 }
 
 /// What becomes of a run that is not clean: a session closed before the end of its file, or there is a note.

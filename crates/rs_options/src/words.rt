@@ -10,15 +10,14 @@ ghost use Rattle.rs_options.specs.CommandLine.{strict_rule, tail_name, tail_rule
 ghost use Rattle.rs_options.specs.CommandLine.{with_manner, with_places, with_strictness};
 ghost use Rattle.rs_options.specs.Standard.{standard_name};
 
-use crate::options::{CommandLine, FileReading, Options, Strictness, WordsFault};
+use crate::options::{CommandLine, Options, Strictness, WordsFault};
 use crate::standard::standard_of;
 use crate::times::read_time;
 use crate::version::VERSION;
 use clap::builder::ValueParser;
 use clap::error::ErrorKind;
 use clap::{Arg, ArgAction, ArgMatches, Command, Error, value_parser};
-use rs_losses::Losses;
-use rs_mrt::{Bounds, Tail};
+use rs_mrt::{Bounds, FileReading, Losses, Tail};
 use rs_update::Errors;
 use std::alloc::{AllocError, Global};
 

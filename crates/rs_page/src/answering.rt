@@ -12,7 +12,7 @@ use crate::style::STYLE;
 use crate::times::times_of;
 use rs_glass_shell::{Reply, Unanswered, Whose, check_place, served, sessions_of, write_whole};
 use rs_host::{DONE, configuration};
-use rs_losses::Losses;
+use rs_mrt::Losses;
 use rs_notes::{Subject, Telling, add_filtered, notes_of};
 use rs_picture::PALETTE;
 use rs_query::PageQuery;

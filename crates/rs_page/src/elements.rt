@@ -2,7 +2,7 @@
 
 use crate::shown::Shown;
 use rs_glass_shell::{add_shell_word, name_at};
-use rs_losses::Losses;
+use rs_mrt::Losses;
 use rs_picture::{Grouped, add_text};
 use rs_update::Errors;
 use std::alloc::AllocError;

@@ -15,11 +15,9 @@ use rs_glass_shell::{
     Reply, Unanswered, Whose, answer_with, check_place, known_of, peer_named, write_whole,
 };
 use rs_host::{WordsFault, configuration, first_unreadable, on_one_line};
-use rs_losses::Losses;
-use rs_mrt::{Bounds, Tail};
+use rs_mrt::{Bounds, FileReading, Losses, Tail};
 use rs_notes::Outlines;
 use rs_opening::open_files;
-use rs_options::FileReading;
 use rs_query::{Destination, HistoryQuery, Span, WhyQuery};
 use rs_setup::Setup;
 use rs_update::Prefix;

@@ -27,10 +27,10 @@ mod told;
 
 use super::said::Said;
 use super::words::Octets;
-use rs_losses::{LossReader, Losses, Sought};
+use rs_losses::{LossReader, Sought};
 use rs_mrt::{
-    Entry, MemoryReader, MrtFault, ReadLimits, Record, RecordReader, Records, Source, SourceFault,
-    entry,
+    Entry, Losses, MemoryReader, MrtFault, ReadLimits, Record, RecordReader, Records, Source,
+    SourceFault, entry,
 };
 use rs_ring::Closing;
 use rs_session::{Body, PeerId, Reason, Session, Word};

@@ -1,7 +1,7 @@
 use Rattle.std.proofs.Common.{◌≡◌, ◌<◌, [], length, inl, sym, ap, ◌∙◌, ltb-true}
 use Rattle.std.proofs.lemmas.Result.{err_from_is_err_and}
 use Rattle.rs_losses.specs.Inserting.{Inserting}
-use Rattle.rs_losses.specs.declared.losses.Losses.TheVariants.{Inferred}
+use Rattle.rs_mrt.specs.declared.bounds.Losses.TheVariants.{Inferred}
 use Rattle.rs_losses.proofs.GoesOnLemmas.{call-ready, call-goes-on, call-fails, nothing-ready}
 use Rattle.rs_losses.proofs.loss_reader.LossReaderRead.read.Goals as goal
 
