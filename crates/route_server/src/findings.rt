@@ -1,11 +1,10 @@
 //! What a run finds that is not clean: notes on the recorded files, and sessions that closed before the end of a file.
 
-use rs_host::{Options, Strictness};
-use rs_mrt::Losses;
-use rs_mrt::Tail;
+use rs_mrt::{FileReading, Losses, Tail};
 use rs_notes::{
     Close, Ending, Notes, Outlines, Subject, Telling, add_filtered, notes_of, notes_on, print_texts,
 };
+use rs_options::Strictness;
 use rs_run::ReasonText;
 use rs_serve::{PeerEnd, Served};
 use rs_session::Reason;
@@ -31,18 +30,19 @@ pub(crate) struct Findings {
 }
 
 impl Findings {
-    /// What a run finds that is served so. Outlines of the files are used if the options ask for more than notes on
-    /// likely mistakes.
+    /// What a run finds that is served so, of files that were read so. Outlines of the files are used if more is asked
+    /// for than notes on likely mistakes.
     pub(crate) fn of<R: AllocGlobal + Files>(
         rt: &R,
         setup: &Setup,
-        options: &Options,
+        reading: FileReading,
+        strict: Strictness,
         outlines: &Outlines,
         served: &Served,
     ) -> Findings {
         let alloc = rt.alloc();
         let notes = match endings_of(alloc, served) {
-            Ok(endings) => notes(rt, setup, options, outlines, served, &endings),
+            Ok(endings) => notes(rt, setup, reading, strict, outlines, served, &endings),
             // A run of which nothing is known isn't clean.
             Err(_) => Notes {
                 texts: Vec::new(alloc),
@@ -84,13 +84,14 @@ impl Findings {
 fn notes<R: AllocGlobal + Files>(
     rt: &R,
     setup: &Setup,
-    options: &Options,
+    reading: FileReading,
+    strict: Strictness,
     outlines: &Outlines,
     served: &Served,
     endings: &[Ending],
 ) -> Notes {
-    let bounds = options.bounds;
-    let telling = match options.strict {
+    let bounds = reading.bounds;
+    let telling = match strict {
         Strictness::Off => Telling::Mistakes,
         _ => Telling::All,
     };
@@ -102,7 +103,7 @@ fn notes<R: AllocGlobal + Files>(
         bounds,
         endings: Some(endings),
         telling,
-        inferred: options.losses == Losses::Inferred,
+        inferred: reading.losses == Losses::Inferred,
     };
     let mut notes = notes_of(rt, subject, &outlines.contents(rt, &setup.files));
     if telling == Telling::All {

@@ -12,11 +12,13 @@ ghost use Rattle.rs_program.specs.Texts.{CanTell};
 mod findings;
 
 use crate::findings::Findings;
-use rs_host::{DONE, Options, Strictness, configuration};
-use rs_mrt::{IoWriter, Read, Tail};
+use rs_host::{DONE, configuration};
+use rs_mrt::{Bounds, FileReading, IoWriter, Read, Tail};
 use rs_notes::Outlines;
+use rs_options::{Options, Strictness};
 use rs_program::{
-    Cleared, Ended, FolderOutlet, Progress, command_line, end, progress_on, ready_files, run_status,
+    Cleared, Counted, Ended, FolderOutlet, Progress, command_line, end, progress_on, ready_files,
+    run_status,
 };
 use rs_run::{Ran, run_if};
 use rs_serve::{Served, record_readers};
@@ -30,17 +32,19 @@ use std::sync::Wait;
 use std::thread::Threads;
 
 fn main(rt: HostRuntime) -> ExitCode {
-    let options = match command_line(&rt) {
-        Ok(options) => options,
+    let line = match command_line(&rt) {
+        Ok(line) => line,
         Err(fault) => return end(&rt, &Ended::Words(fault), None, None),
     };
+    let options = &line.options;
     let setup = match configuration(&rt, &options.config) {
         Ok(setup) => setup,
         Err(unready) => return end(&rt, &Ended::from(unready), None, None),
     };
-    match serve(&rt, &setup, &options, terminal(rt.stderr())) {
+    let terminal = terminal(rt.stderr());
+    match serve(&rt, &setup, options, line.reading, line.strict, terminal) {
         Ok(status) => ExitCode::from(status),
-        Err(ended) => end(&rt, &ended, Some(&setup), Some(&options)),
+        Err(ended) => end(&rt, &ended, Some(&setup), Some(options)),
     }
 }
 
@@ -59,6 +63,8 @@ fn serve<R: AllocGlobal + Files + Print + Eprint + Threads + Wait + Sync>(
     rt: &R,
     setup: &Setup,
     options: &Options,
+    reading: FileReading,
+    strict: Strictness,
     terminal: Option<Stderr>,
 ) -> Result<u8, Ended>
 where
@@ -69,12 +75,14 @@ where
     ensures { IfErr result (λ ended. CanTell ended (Some setup.entry) (Some options.entry)) }
 {
     let progress = progress_on(rt, terminal, &setup.files);
-    let outlines = outlines_for(rt.alloc(), setup, options);
-    let files = ready_files(rt, setup, options, &progress, &outlines)?;
+    let outlines = outlines_for(rt.alloc(), setup, reading.bounds, strict);
+    let files = ready_files(rt, setup, options, reading, |file| {
+        outlines.noting(Counted::new(file, &progress))
+    })?;
     let mut found = None;
     let ran = run_over(rt, setup, options, files, &progress, |served| {
-        let findings = Findings::of(rt, setup, options, &outlines, served);
-        let is_wanted = findings.is_clean() || options.strict != Strictness::BeforeWriting;
+        let findings = Findings::of(rt, setup, reading, strict, &outlines, served);
+        let is_wanted = findings.is_clean() || strict != Strictness::BeforeWriting;
         found = Some(findings);
         is_wanted
     })?;
@@ -82,13 +90,12 @@ where
         return Ok(DONE);
     };
     findings.print(rt, ran.is_written);
-    Ok(run_status(options.strict, findings.is_clean()))
+    Ok(run_status(strict, findings.is_clean()))
 }
 
 // Outlines of the files, if notes need more than how the sessions end: with `--strict`, and if tails are left out.
-fn outlines_for(alloc: Global, setup: &Setup, options: &Options) -> Outlines {
-    let bounds = options.bounds;
-    if options.strict == Strictness::Off && bounds.tail == Tail::Strict {
+fn outlines_for(alloc: Global, setup: &Setup, bounds: Bounds, strict: Strictness) -> Outlines {
+    if strict == Strictness::Off && bounds.tail == Tail::Strict {
         Outlines::none(alloc, bounds)
     } else {
         Outlines::within(alloc, setup, bounds)

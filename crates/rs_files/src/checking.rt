@@ -17,8 +17,7 @@ use crate::refused::refusal_text;
 use crate::unreadable::unreadable_text;
 use rs_glass_shell::{Reply, Unanswered, served_as_checked};
 use rs_host::{DONE, FAILED, NOT_CLEAN, REFUSED, Unready, configuration_of, found_at, read_file};
-use rs_mrt::Losses;
-use rs_mrt::Bounds;
+use rs_mrt::{Bounds, Losses};
 use rs_notes::{
     Close, Contents, Ending, Notes, Subject, Telling, add_filtered, contents_of, front_at, notes_of,
 };
@@ -50,7 +49,7 @@ where
         Ok(octets) => octets,
         Err(fault) => return Err(Unanswered::from(Unready::by_file(alloc, fault, path))),
     };
-    match configuration_of(rt, &octets) {
+    match configuration_of(rt, path, &octets) {
         Ok(setup) => check_files(rt, &setup, query),
         Err(Unready::Setup(SetupFault::Memory)) => Err(Unanswered::Memory),
         Err(Unready::Setup(fault)) => Ok(told(

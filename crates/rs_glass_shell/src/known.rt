@@ -4,11 +4,12 @@
 //! Our choices: of a session it is only told that it is down if a recorded change of state or the last record of the peer
 //! shows that. If losses are inferred, the file of a peer is read once more for its session.
 
-use rs_host::{found_at, open_file, sought};
+use rs_host::{found_at, open_file};
 use rs_inventory::{Inventory, Peer, PeerRecords, read_outline};
-use rs_losses::{LossReader, Losses, Sought};
-use rs_mrt::{BoundedReader, Bounds};
+use rs_losses::{LossReader, Sought};
+use rs_mrt::{BoundedReader, Bounds, Losses};
 use rs_notes::{Contents, Outlines, Subject, Telling, contents_of, notes_of};
+use rs_opening::sought;
 use rs_setup::Setup;
 use std::alloc::AllocError;
 use std::fs::Files;

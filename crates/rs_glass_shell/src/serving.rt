@@ -4,9 +4,10 @@ ghost use Rattle.std.specs.Prelude.{◌≡◌, IfOk, length};
 
 use crate::built::Built;
 use crate::unanswered::Unanswered;
-use rs_host::{Unready, WordsFault, open_files};
-use rs_mrt::Losses;
+use rs_host::{Unready, WordsFault};
+use rs_mrt::{FileReading, Losses};
 use rs_notes::Outlines;
+use rs_opening::open_files;
 use rs_query::{CheckQuery, TablesQuery};
 use rs_serve::{FloorRefused, Open, Served, serve_by};
 use rs_setup::Setup;
@@ -89,9 +90,11 @@ where
     ensures { IfOk result (λ served. served.tables.plan ≡ setup.now.plan.value) }
 {
     let alloc = rt.alloc();
-    let files = open_files(rt, setup, outlines.bounds(), manner.losses, |file| {
-        outlines.noting(file)
-    })?;
+    let reading = FileReading {
+        bounds: outlines.bounds(),
+        losses: manner.losses,
+    };
+    let files = open_files(rt, setup, reading, |file| outlines.noting(file))?;
     let (shards, errors) = (manner.shards, manner.errors);
     match serve_by(rt, alloc, &setup.plan, files, RING, shards, errors, &Open) {
         Ok(served) => Ok(served),

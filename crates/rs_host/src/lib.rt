@@ -4,11 +4,10 @@
 //! Reading order: `fault` (why a file can't be read), `whole` (a file that is read whole), `recorded` (a recorded file,
 //! which is read in pieces). `file_identity` (which file a path names), `read_once` (what is seen before any is
 //! opened). `unready` (why what a program needs can't be read), `list_disk` (the files of configurations and lists),
-//! `setup_file` (the configuration). `sought_peer` (whose losses are looked for), `files` (opening the recorded files).
-//! `part_file` (files that are written whole or not at all), `overwritten` (that none of them is written over a file
-//! that is read). `escaped` (texts whose control characters are escaped), `times` (times of records as texts, RFC 6396,
-//! section 2). `arguments` (the words of the command line). `refusal` (why a command line or a configuration is
-//! refused), `line` and `status` (how a program ends).
+//! `setup_file` (the configuration). `part_file` (files that are written whole or not at all), `overwritten` (that none
+//! of them is written over a file that is read). `escaped` (texts whose control characters are escaped), `times` (times
+//! of records as texts, RFC 6396, section 2). `arguments` (the words of the command line). `refusal` (why a command line
+//! or a configuration is refused), `line` and `status` (how a program ends).
 //!
 //! A call that allocates fails if memory is refused.
 #![tactic(auto)]
@@ -17,7 +16,6 @@ mod arguments;
 mod escaped;
 mod fault;
 mod file_identity;
-mod files;
 mod line;
 mod list_disk;
 mod overwritten;
@@ -26,7 +24,6 @@ mod read_once;
 mod recorded;
 mod refusal;
 mod setup_file;
-mod sought_peer;
 mod status;
 mod times;
 mod unready;
@@ -36,16 +33,14 @@ pub use arguments::read_arguments;
 pub use escaped::{each_on_one_line, on_one_line};
 pub use fault::FileFault;
 pub use file_identity::{FileIdentity, found_at};
-pub use files::open_files;
 pub use line::{MEMORY_TEXT, OUTPUT_TEXT, end_with, program_line, unread_line};
 pub use overwritten::{files_of_setup, files_read, writes_over};
 pub use part_file::{part_path, takes_part_file};
 pub use read_once::first_unreadable;
-pub use recorded::{Bounded, PIECE_LEN, Recorded, Replayed, in_pieces, open, open_file};
+pub use recorded::{PIECE_LEN, Recorded, in_pieces, open, open_file};
 pub use refusal::{setup_line, words_text};
 pub use rs_options::{Options, Strictness, VERSION, WordsFault, losses_of, read_time, standard_of};
 pub use setup_file::{configuration, configuration_of, configurations};
-pub use sought_peer::sought;
 pub use status::{
     DONE, FAILED, NOT_CLEAN, OUT_OF_MEMORY, REFUSED, UNSETTLED, setup_status, words_status,
 };

@@ -42,6 +42,12 @@ impl<'a, R: AllocGlobal + Files> Disk<'a, R> {
         }
     }
 
+    /// Counts the file at a path as read, by another call than `read`.
+    pub(crate) fn count_as_read(&self, path: &str) -> Result<(), AllocError> {
+        let _ = self.may_read(path)?;
+        Ok(())
+    }
+
     // Whether the file at a path may be read. It then counts as read.
     fn may_read(&self, path: &str) -> Result<bool, AllocError> {
         let Some(file) = read_once_at(self.rt, path)? else {

@@ -3,8 +3,7 @@
 ghost use Rattle.std.specs.Prelude.{◌≡◌, IfOk};
 
 use crate::fault::FileFault;
-use rs_losses::LossReader;
-use rs_mrt::{BoundedReader, IoReader};
+use rs_mrt::IoReader;
 use std::alloc::Global;
 use std::fs::{File, Files};
 use std::io::{BufReader, Read};
@@ -14,12 +13,6 @@ pub const PIECE_LEN: usize = 65_536;
 
 /// A recorded file that is read in pieces of `PIECE_LEN` octets.
 pub type Recorded<F> = IoReader<BufReader<F>>;
-
-/// A recorded file of which the octets within bounds are read.
-pub type Bounded<F> = BoundedReader<Recorded<F>>;
-
-/// The same with the losses of a peer that its records show, if these are asked for.
-pub type Replayed<F> = LossReader<Bounded<F>>;
 
 /// Opens the recorded file at a path, and reads nothing yet. Fails with `Unread` if it can't be opened, with
 /// `Memory` if memory is refused.

@@ -41,11 +41,16 @@ pub fn configurations<R: AllocGlobal + Files>(
     Ok((old, new))
 }
 
-/// The same of the configuration that a text is.
-pub fn configuration_of<R: AllocGlobal + Files>(rt: &R, text: &[u8]) -> Result<Setup, Unready>
+/// Reads the lists of a configuration whose text was read at this path, and fails as `configuration` does.
+pub fn configuration_of<R: AllocGlobal + Files>(
+    rt: &R,
+    path: &str,
+    text: &[u8],
+) -> Result<Setup, Unready>
     ensures { IfOk result (λ setup. length setup.files.items ≡ length setup.plan.value.peers) }
 {
     let disk = Disk::new(rt);
+    disk.count_as_read(path)?;
     let setup = setup_of(&disk, text)?;
     refuse_again(&disk, &setup.files)?;
     Ok(setup)

@@ -1,8 +1,10 @@
-//! How much of a recorded file is read.
+//! How a recorded file is read.
 
 ghost use Rattle.std.specs.Prelude.{◌≡◌};
 ghost use Rattle.rs_mrt.specs.declared.bounds.Tail.TheVariants.{Strict};
 ghost use Rattle.rs_mrt.specs.Bounds.{are_open, is_time_later};
+
+use crate::losses::Losses;
 
 /// What becomes of a record that the end of a file cuts short (RFC 6396, section 2).
 #[derive(Clone, Copy, Debug, PartialEq, Eq, Drop)]
@@ -21,6 +23,15 @@ pub struct Bounds {
     pub until: Option<u32>,
     /// What becomes of a record that the end of the file cuts short.
     pub tail: Tail,
+}
+
+/// How a recorded file is read.
+#[derive(Clone, Copy, Debug, PartialEq, Eq, Drop)]
+pub struct FileReading {
+    /// How much of it is read.
+    pub bounds: Bounds,
+    /// Which losses of a session count.
+    pub losses: Losses,
 }
 
 impl Bounds {

@@ -1,7 +1,7 @@
 //! MRT records of a recording of BGP (RFC 6396): those of a file, at hand or in pieces, what a BGP4MP record says,
 //! and the header of a record that is written.
 //!
-//! Reading order: `record`, `fault`, `meaning`, `bgp4mp`, `source`. How a file is read: `bounds`, `losses`,
+//! Reading order: `record`, `fault`, `meaning`, `bgp4mp`, `source`. How a file is read: `losses`, `bounds`,
 //! `lenient`. Files in pieces: `reader`, `inlet`, `window`, `record_reader`; a part of one: `bounded_reader`. What is written:
 //! `spelling`, `stream`. At last `memory`, `memory_reader`; `laws`.
 //!
@@ -30,7 +30,7 @@ mod window;
 
 pub use bgp4mp::{AFI_IPV4, BGP4MP, BGP4MP_ET, FRONT_LEN, MESSAGE_AS4, STATE_CHANGE_AS4, entry};
 pub use bounded_reader::BoundedReader;
-pub use bounds::{Bounds, Tail};
+pub use bounds::{Bounds, FileReading, Tail};
 pub use fault::{MrtFault, SourceFault};
 pub use inlet::READ_LIMIT;
 pub use laws::{

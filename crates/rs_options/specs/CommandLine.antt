@@ -1,4 +1,4 @@
--- The command line: the program's command as `clap` knows it, and the options that its words ask for.
+-- The command line: the program's command as `clap` knows it, and what its words ask for.
 use Rattle.std.specs.Prelude.{◌≡◌, ◌≢◌, ◌≤◌, ◌⊎◌, ℕ, ⊤, pos, Bool, true, false, List, [], ◌∷◌, Option, None, Some}
 use Rattle.std.specs.Prelude.{IsSome, codes, option_map, string_bytes, unwrap_or}
 use Rattle.std.specs.Str.Parse.{digits_value, without_leading_plus}
@@ -13,8 +13,10 @@ use Rattle.rs_options.specs.Standard.{standard_name}
 use Rattle.rs_mrt.specs.declared.bounds.Bounds.{Bounds}
 use Rattle.rs_mrt.specs.declared.bounds.Tail.{Tail}
 use Rattle.rs_mrt.specs.declared.bounds.Tail.TheVariants.{Strict, Lenient}
-use Rattle.rs_losses.specs.declared.losses.Losses.{Losses}
-use Rattle.rs_losses.specs.declared.losses.Losses.TheVariants.{Recorded, Inferred}
+use Rattle.rs_mrt.specs.declared.losses.Losses.{Losses}
+use Rattle.rs_mrt.specs.declared.losses.Losses.TheVariants.{Recorded, Inferred}
+use Rattle.rs_options.specs.declared.options.CommandLine.{CommandLine}
+use Rattle.rs_mrt.specs.declared.bounds.FileReading.{FileReading}
 use Rattle.rs_options.specs.declared.options.Options.{Options}
 use Rattle.rs_options.specs.declared.options.Strictness.{Strictness}
 use Rattle.rs_options.specs.declared.options.Strictness.TheVariants.{Off, BeforeWriting, AfterWriting}
@@ -157,24 +159,38 @@ pub record HoldStrict (rows : List Row) (strict : Strictness) : Type 0 where
   pub after_found : IsFlag (one_of (codes "strict-after") rows) after
   pub asked : strict ≡ strict_by before after
 
--- the values that were found for each argument are these options; numbers count as numbers, and the standard by its
--- name
-pub record HoldOptions (rows : List Row) (options : Options) : Type 0 where
+-- the values that were found say how each file is read; the losses count by their name
+pub record HoldReading (rows : List Row) (reading : FileReading) : Type 0 where
+  pub bounds : HoldBounds rows reading.bounds
+  pub losses : first_of (codes "losses") rows ≡ Some (losses_name reading.losses)
+
+-- The values that were found are what a run is given. Numbers count as numbers, and the standard by its name. The
+-- default of the Timestamp is the time up to which files are read, or 0 without one.
+pub record HoldOptions (rows : List Row) (until : Option ℕ) (options : Options) : Type 0 where
   pub config : first_of (codes "config") rows ≡ Some (string_bytes options.config)
   pub out : first_of (codes "out") rows ≡ Some (string_bytes options.out)
-  pub time : IsTime rows (unwrap_or options.bounds.until 0) options.time
+  pub time : IsTime rows (unwrap_or until 0) options.time
   pub ring : option_map number_of (one_of (codes "ring") rows) ≡ Some options.ring
   pub ring_fits : (1 ≤ options.ring) × (options.ring ≤ 65536)
   pub shards : option_map number_of (one_of (codes "shards") rows) ≡ Some options.shards
   pub shards_fit : (1 ≤ options.shards) × (options.shards ≤ 16)
   pub errors : first_of (codes "errors") rows ≡ Some (standard_name options.errors)
-  pub bounds : HoldBounds rows options.bounds
-  pub losses : first_of (codes "losses") rows ≡ Some (losses_name options.losses)
-  pub strict : HoldStrict rows options.strict
 
--- the options are the values that the command finds in the words, or the defaults
-abbrev pub AreOptionsOf : List Text → Options → Type 0
-AreOptionsOf words options = HoldOptions (matches_of program words) options
+-- the values that were found for each argument are what is asked for
+pub record HoldCommandLine (rows : List Row) (line : CommandLine) : Type 0 where
+  pub options : HoldOptions rows line.reading.bounds.until line.options
+  pub reading : HoldReading rows line.reading
+  pub strict : HoldStrict rows line.strict
+
+-- what is asked for are the values that the command finds in the words, or the defaults
+abbrev pub IsCommandLineOf : List Text → CommandLine → Type 0
+IsCommandLineOf words line = HoldCommandLine (matches_of program words) line
+
+-- the words ask for these options, and that files are read so
+pub record AreOptionsOf (words : List Text) (options : Options) : Type 0 where
+  pub reading : FileReading
+  pub read_so : HoldReading (matches_of program words) reading
+  pub given : HoldOptions (matches_of program words) reading.bounds.until options
 
 -- The kinds of error that `clap` finds in the words, among them requests for help or for the version. There are none
 -- if it accepts the words.

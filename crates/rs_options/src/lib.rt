@@ -11,8 +11,8 @@ mod times;
 mod version;
 mod words;
 
-pub use options::{Options, Strictness, WordsFault};
+pub use options::{CommandLine, Options, Strictness, WordsFault};
 pub use standard::standard_of;
 pub use times::read_time;
 pub use version::VERSION;
-pub use words::{losses_of, read_words};
+pub use words::{losses_of, read_command_line, read_words};

@@ -3,13 +3,24 @@
 ghost use Rattle.std.specs.Prelude.{◌≡◌};
 ghost use Rattle.rs_options.specs.declared.options.WordsFault.TheVariants.{Memory};
 
-use rs_mrt::Losses;
-use rs_mrt::Bounds;
+use rs_mrt::FileReading;
 use rs_update::Errors;
 use std::alloc::AllocError;
 use thiserror::Error;
 
-/// What the words of the command line ask for.
+/// What the words of the command line ask for: what a run is given, how the recorded files are read before it, and what
+/// becomes of it.
+#[derive(Drop)]
+pub struct CommandLine {
+    /// What a run is given.
+    pub options: Options,
+    /// How each recorded file is read.
+    pub reading: FileReading,
+    /// What becomes of a run that is not clean.
+    pub strict: Strictness,
+}
+
+/// What a run is given by the words of the command line. It is given the recorded files as readers.
 #[derive(Drop)]
 pub struct Options {
     /// The path of the configuration.
@@ -25,12 +36,6 @@ pub struct Options {
     /// The standard by which faults in the path attributes of an UPDATE are handled (RFC 4271, section 6.3,
     /// or RFC 7606).
     pub errors: Errors,
-    /// How much of each recorded file is read.
-    pub bounds: Bounds,
-    /// Which losses of a session count.
-    pub losses: Losses,
-    /// What becomes of a run that is not clean.
-    pub strict: Strictness,
 }
 
 /// What becomes of a run that is not clean: a session closed before the end of its file, or there is a note.
@@ -44,7 +49,7 @@ pub enum Strictness {
     AfterWriting,
 }
 
-/// Why the words of the command line give no options.
+/// Why the words of the command line ask for nothing that can be done.
 #[derive(Debug, Drop, Error)]
 pub enum WordsFault {
     /// Help or the version was asked for: its text.

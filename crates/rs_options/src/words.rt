@@ -2,22 +2,23 @@
 
 ghost use Rattle.std.specs.Prelude.{◌≡◌, [], IfErr, IfOk, IfSome, OnOk, Some, codes, false, map, string_bytes};
 ghost use Rattle.clap.specs.Words.{app_of, first_of, found_of, kind_of, rows_of, rule_of, with_rule};
-ghost use Rattle.rs_options.specs.CommandLine.{AreOptionsOf, HoldBounds, HoldOptions, IsTime, IsToldAs, SaysWhy};
-ghost use Rattle.rs_options.specs.CommandLine.{HoldStrict, config_rule, errors_rule, faults_in, flag, free_option};
-ghost use Rattle.rs_options.specs.CommandLine.{losses_name, losses_rule, out_rule, program, ring_rule, shards_rule};
-ghost use Rattle.rs_options.specs.CommandLine.{strict_after_rule, strict_by, strict_rule, tail_name, tail_rule};
-ghost use Rattle.rs_options.specs.CommandLine.{time_rule, until_rule, with_bounds, with_manner, with_places};
-ghost use Rattle.rs_options.specs.CommandLine.{with_strictness};
+ghost use Rattle.rs_options.specs.CommandLine.{AreOptionsOf, HoldBounds, HoldCommandLine, HoldOptions, HoldReading};
+ghost use Rattle.rs_options.specs.CommandLine.{HoldStrict, IsCommandLineOf, IsTime, IsToldAs, SaysWhy, config_rule};
+ghost use Rattle.rs_options.specs.CommandLine.{errors_rule, faults_in, flag, free_option, losses_name, losses_rule};
+ghost use Rattle.rs_options.specs.CommandLine.{out_rule, program, ring_rule, shards_rule, strict_after_rule, strict_by};
+ghost use Rattle.rs_options.specs.CommandLine.{strict_rule, tail_name, tail_rule, time_rule, until_rule, with_bounds};
+ghost use Rattle.rs_options.specs.CommandLine.{with_manner, with_places, with_strictness};
+ghost use Rattle.rs_options.specs.Standard.{standard_name};
 
-use crate::options::{Options, Strictness, WordsFault};
+use crate::options::{CommandLine, Options, Strictness, WordsFault};
 use crate::standard::standard_of;
 use crate::times::read_time;
 use crate::version::VERSION;
 use clap::builder::ValueParser;
 use clap::error::ErrorKind;
 use clap::{Arg, ArgAction, ArgMatches, Command, Error, value_parser};
-use rs_mrt::Losses;
-use rs_mrt::{Bounds, Tail};
+use rs_mrt::{Bounds, FileReading, Losses, Tail};
+use rs_update::Errors;
 use std::alloc::{AllocError, Global};
 
 // What the program does, at the head of its help.
@@ -133,28 +134,60 @@ For more information, try '--help'.
 /// Answers `Help` where help or the version is asked for, with the text of `clap`. Answers `Refused` if the words
 /// aren't such, with the text of `clap`, or one of our own where `--errors`, `--until`, `--tail` or `--losses` has no
 /// such value. Answers `Memory` if memory is refused.
+pub fn read_command_line(alloc: Global, words: Vec<String>) -> Result<CommandLine, WordsFault>
+    ensures line { IfOk result (λ line. IsCommandLineOf (map string_bytes words.items) line) }
+    ensures taken { OnOk result (faults_in (map string_bytes words.items) ≡ []) }
+    ensures refused { IfErr result (SaysWhy (faults_in (map string_bytes words.items))) }
+{
+    match program(alloc)?.try_get_matches_from(words.as_slice()) {
+        Ok(matches) => command_line_of(alloc, &matches),
+        Err(error) => Err(fault_of(alloc, &error)),
+    }
+}
+
+/// Reads the same words, and gives of what they ask for only what a run is given. It takes and refuses what
+/// `read_command_line` does.
 pub fn read_words(alloc: Global, words: Vec<String>) -> Result<Options, WordsFault>
     ensures options { IfOk result (λ options. AreOptionsOf (map string_bytes words.items) options) }
     ensures taken { OnOk result (faults_in (map string_bytes words.items) ≡ []) }
     ensures refused { IfErr result (SaysWhy (faults_in (map string_bytes words.items))) }
 {
-    match program(alloc)?.try_get_matches_from(words.as_slice()) {
-        Ok(matches) => options_of(alloc, &matches),
-        Err(error) => Err(fault_of(alloc, &error)),
+    match read_command_line(alloc, words) {
+        Ok(line) => Ok(line.options),
+        Err(fault) => Err(fault),
     }
 }
 
-// The options that the matches hold. `clap` gives a value to each that is needed or has a default, and numbers are
-// within their limits. So only memory is refused here, and a word that names no standard, no time and no tail.
-fn options_of(alloc: Global, matches: &ArgMatches<'_>) -> Result<Options, WordsFault>
-    ensures options { IfOk result (HoldOptions (rows_of (found_of matches.now))) }
+// What the matches ask for. `clap` gives a value to each option that is needed or has a default, and numbers are within
+// their limits. So only memory is refused here, and a word that names no standard, no tail, no time and no losses.
+fn command_line_of(alloc: Global, matches: &ArgMatches<'_>) -> Result<CommandLine, WordsFault>
+    ensures line { IfOk result (HoldCommandLine (rows_of (found_of matches.now))) }
     ensures refused { IfErr result (SaysWhy []) }
 {
-    let (Some(config), Some(out), Some(standard)) = (
-        matches.get_str("config"),
-        matches.get_str("out"),
-        matches.get_str("errors"),
-    ) else {
+    let errors = errors_in(alloc, matches)?;
+    let reading = reading_in(alloc, matches)?;
+    let options = options_of(alloc, matches, errors, reading.bounds.until)?;
+    let strict = strict_in(matches);
+    Ok(CommandLine {
+        options,
+        reading,
+        strict,
+    })
+}
+
+// What a run is given, with the standard that the matches name. A time up to which files are read is the default of
+// that of the dumps.
+fn options_of(
+    alloc: Global,
+    matches: &ArgMatches<'_>,
+    errors: Errors,
+    until: Option<u32>,
+) -> Result<Options, WordsFault>
+    requires { first_of (codes "errors") (rows_of (found_of matches.now)) ≡ Some (standard_name errors) }
+    ensures options { IfOk result (HoldOptions (rows_of (found_of matches.now)) until) }
+    ensures refused { IfErr result (SaysWhy []) }
+{
+    let (Some(config), Some(out)) = (matches.get_str("config"), matches.get_str("out")) else {
         return Err(WordsFault::Refused(String::from_str(alloc, INCOMPLETE)?));
     };
     let (Some(ring @ 1..=65_536), Some(shards @ 1..=16)) = (
@@ -163,13 +196,7 @@ fn options_of(alloc: Global, matches: &ArgMatches<'_>) -> Result<Options, WordsF
     ) else {
         return Err(WordsFault::Refused(String::from_str(alloc, INCOMPLETE)?));
     };
-    let Some(errors) = standard_of(standard) else {
-        return Err(WordsFault::Refused(String::from_str(alloc, NO_STANDARD)?));
-    };
-    let bounds = bounds_of(alloc, matches)?;
-    let time = time_of(alloc, matches, bounds.until.unwrap_or(0))?;
-    let losses = losses_in(alloc, matches)?;
-    let strict = strict_in(matches);
+    let time = time_of(alloc, matches, until.unwrap_or(0))?;
     let config = String::from_str(alloc, config)?;
     let out = String::from_str(alloc, out)?;
     Ok(Options {
@@ -179,10 +206,32 @@ fn options_of(alloc: Global, matches: &ArgMatches<'_>) -> Result<Options, WordsF
         ring,
         shards,
         errors,
-        bounds,
-        losses,
-        strict,
     })
+}
+
+// The standard by which faults are handled.
+fn errors_in(alloc: Global, matches: &ArgMatches<'_>) -> Result<Errors, WordsFault>
+    ensures errors { IfOk result (λ errors.
+        first_of (codes "errors") (rows_of (found_of matches.now)) ≡ Some (standard_name errors)) }
+    ensures refused { IfErr result (SaysWhy []) }
+{
+    let Some(name) = matches.get_str("errors") else {
+        return Err(WordsFault::Refused(String::from_str(alloc, INCOMPLETE)?));
+    };
+    match standard_of(name) {
+        Some(errors) => Ok(errors),
+        None => Err(WordsFault::Refused(String::from_str(alloc, NO_STANDARD)?)),
+    }
+}
+
+// How each file is read.
+fn reading_in(alloc: Global, matches: &ArgMatches<'_>) -> Result<FileReading, WordsFault>
+    ensures reading { IfOk result (HoldReading (rows_of (found_of matches.now))) }
+    ensures refused { IfErr result (SaysWhy []) }
+{
+    let bounds = bounds_of(alloc, matches)?;
+    let losses = losses_in(alloc, matches)?;
+    Ok(FileReading { bounds, losses })
 }
 
 // The Timestamp of the records written: that of the words, or else this one.
@@ -279,7 +328,7 @@ fn tail_of(name: &str) -> Option<Tail>
     }
 }
 
-// Why the words give no options, with the text of `clap`.
+// Why the words ask for nothing that can be done, with the text of `clap`.
 fn fault_of(alloc: Global, error: &Error) -> WordsFault
     ensures { IsToldAs (kind_of error.now) result }
 {

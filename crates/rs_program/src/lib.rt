@@ -29,6 +29,6 @@ pub use counted::Counted;
 pub use ended::{Ended, run_status, status};
 pub use folder_outlet::FolderOutlet;
 pub use progress::Progress;
-pub use rs_options::read_words;
+pub use rs_options::{read_command_line, read_words};
 pub use start::{command_line, end, progress_on, ready_files};
 pub use texts::line;

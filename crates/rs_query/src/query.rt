@@ -1,8 +1,7 @@
 //! What the command line asks.
 
 use crate::reasons::AskedReason;
-use rs_mrt::Losses;
-use rs_mrt::Bounds;
+use rs_mrt::{Bounds, Losses};
 use rs_rows::Form;
 use rs_update::{Errors, Prefix};
 

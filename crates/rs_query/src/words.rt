@@ -13,8 +13,7 @@ use crate::values::{
 use clap::error::ErrorKind;
 use clap::{ArgMatches, Error};
 use rs_host::{WordsFault, each_on_one_line, losses_of, standard_of};
-use rs_mrt::Losses;
-use rs_mrt::{Bounds, Tail};
+use rs_mrt::{Bounds, Losses, Tail};
 use rs_update::{Errors, Prefix};
 use std::alloc::{AllocError, Global};
 

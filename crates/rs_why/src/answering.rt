@@ -14,10 +14,10 @@ use rs_glass::{
 use rs_glass_shell::{
     Reply, Unanswered, Whose, answer_with, check_place, known_of, peer_named, write_whole,
 };
-use rs_host::{WordsFault, configuration, first_unreadable, on_one_line, open_files};
-use rs_mrt::Losses;
-use rs_mrt::{Bounds, Tail};
+use rs_host::{WordsFault, configuration, first_unreadable, on_one_line};
+use rs_mrt::{Bounds, FileReading, Losses, Tail};
 use rs_notes::Outlines;
+use rs_opening::open_files;
 use rs_query::{Destination, HistoryQuery, Span, WhyQuery};
 use rs_setup::Setup;
 use rs_update::Prefix;
@@ -231,9 +231,11 @@ where
         length reading.said.items ≡ length setup.now.plan.value.peers) }
 {
     let alloc = rt.alloc();
-    let files = open_files(rt, setup, outlines.bounds(), losses, |file| {
-        outlines.noting(file)
-    })?;
+    let reading = FileReading {
+        bounds: outlines.bounds(),
+        losses,
+    };
+    let files = open_files(rt, setup, reading, |file| outlines.noting(file))?;
     match read_sessions(rt, alloc, &setup.plan, files, question) {
         Ok(reading) => Ok(reading),
         Err(fault) => Err(by_reading(alloc, fault, setup)),
@@ -255,10 +257,11 @@ where
 {
     let alloc = rt.alloc();
     let question = asked(rt, setup, query.prefix, query.span)?;
-    let losses = query.span.losses;
-    let files = open_files(rt, setup, outlines.bounds(), losses, |file| {
-        outlines.noting(file)
-    })?;
+    let reading = FileReading {
+        bounds: outlines.bounds(),
+        losses: query.span.losses,
+    };
+    let files = open_files(rt, setup, reading, |file| outlines.noting(file))?;
     match read_happenings(rt, alloc, &setup.plan, files, &question) {
         Ok(happenings) => {
             let from = if query.svg.is_some() {

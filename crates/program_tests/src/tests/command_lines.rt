@@ -1,8 +1,7 @@
 //! What command lines ask for.
 
 use super::check;
-use rs_host::{Options, WordsFault};
-use rs_program::read_words;
+use rs_options::{CommandLine, WordsFault, read_command_line};
 use std::alloc::{AllocError, Global};
 use std::test::Fail;
 
@@ -60,10 +59,11 @@ pub fn words(alloc: Global, line: &str) -> Result<Vec<String>, AllocError> {
 }
 
 // Appends what a command line asks for.
-fn add_options(text: &mut String, options: &Options) -> Result<(), AllocError> {
+fn add_line(text: &mut String, line: &CommandLine) -> Result<(), AllocError> {
+    let (options, reading, strict) = (&line.options, line.reading, line.strict);
     let (config, out, time) = (&options.config, &options.out, options.time);
     let (ring, shards, errors) = (options.ring, options.shards, options.errors);
-    let (bounds, losses, strict) = (options.bounds, options.losses, options.strict);
+    let (bounds, losses) = (reading.bounds, reading.losses);
     writeln!(
         text,
         "{config} {out} {time} {ring} {shards} {errors:?} {bounds:?} {losses:?} {strict:?}"
@@ -85,8 +85,8 @@ fn command_lines_are_read_or_refused(rt: HostRuntime) -> Result<(), Fail> {
     let alloc = rt.alloc();
     let mut text = String::new(alloc);
     for line in &LINES {
-        match read_words(alloc, words(alloc, line)?) {
-            Ok(options) => add_options(&mut text, &options)?,
+        match read_command_line(alloc, words(alloc, line)?) {
+            Ok(line) => add_line(&mut text, &line)?,
             Err(fault) => add_fault(&mut text, &fault)?,
         }
     }

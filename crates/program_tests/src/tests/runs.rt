@@ -3,9 +3,8 @@
 
 ghost use Rattle.std.specs.Prelude.{◌≡◌, ◌<◌, ◌≤◌, IfOk, length};
 
-use rs_host::{Options, Strictness};
-use rs_mrt::Losses;
-use rs_mrt::{Bounds, IoWriter, Limits, MemoryReader, MemoryWriter, ReadLimits, Write};
+use rs_mrt::{IoWriter, Limits, MemoryReader, MemoryWriter, ReadLimits, Write};
+use rs_options::Options;
 use rs_outlet::{Kept, MemoryOutlet, OutletLimits, RunFault};
 use rs_program::{Cleared, Progress};
 use rs_run::run;
@@ -145,9 +144,6 @@ pub fn options(alloc: Global, ring: usize, shards: usize) -> Result<Options, Fai
         ring,
         shards,
         errors: Errors::Rfc4271,
-        bounds: Bounds::none(),
-        losses: Losses::Recorded,
-        strict: Strictness::Off,
     })
 }
 

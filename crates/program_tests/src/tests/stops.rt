@@ -5,9 +5,9 @@ ghost use Rattle.rs_program.specs.Texts.{CanTell};
 
 use super::check;
 use super::command_lines::words;
-use rs_host::{Options, WordsFault};
+use rs_options::{Options, WordsFault, read_words};
 use rs_outlet::RunFault;
-use rs_program::{Ended, line, read_words, status};
+use rs_program::{Ended, line, status};
 use rs_setup::{Setup, SetupFault, read_setup};
 use std::alloc::Global;
 use std::test::Fail;

@@ -28,10 +28,10 @@ mod told;
 
 use super::said::Said;
 use super::words::Octets;
-use rs_losses::{LossReader, Losses, Sought, WithLosses};
+use rs_losses::{LossReader, Sought, WithLosses};
 use rs_mrt::{
-    Entry, MemoryReader, MrtFault, ReadLimits, Record, RecordReader, Records, Source, SourceFault,
-    entry,
+    Entry, Losses, MemoryReader, MrtFault, ReadLimits, Record, RecordReader, Records, Source,
+    SourceFault, entry,
 };
 use rs_ring::Closing;
 use rs_session::{Body, PeerId, Reason, Session, Word};

@@ -23,8 +23,5 @@ returns-clause-options c =
           (λ none. c.get_one-2.ensures.none (one_text-rows found (codes "shards") ∙ none))
           (λ t is. c.get_one-2.ensures.value t (one_text-rows found (codes "shards") ∙ is)) (search rules);
       shards_fit = search rules;
-      errors = sym (first_value-rows found (codes "errors")) ∙ (sym c.get_str-3.ensures ∙ search rules);
-      bounds = search rules;
-      losses = search rules;
-      strict = search rules;
+      errors = c.requires;
     }

@@ -3,9 +3,9 @@ use Rattle.std.proofs.Common.{rules, ap, ap₂, refl, subst, sym, true, [], map,
 use Rattle.std.proofs.lemmas.Result.{IfErr-weaker, IfOk-weaker}
 use Rattle.clap.specs.Words.{HasKind, app_of, fault_of, found_of, is_simple, is_simple_and_free, matches_of, rows_of}
 use Rattle.clap.proofs.OnLiterals.{clap_on_literals}
-use Rattle.rs_options.specs.CommandLine.{HoldOptions, SaysWhy, faults_in, program}
+use Rattle.rs_options.specs.CommandLine.{HoldCommandLine, SaysWhy, faults_in, program}
 use Rattle.rs_options.proofs.WordLemmas.{at_success, told_as}
-use Rattle.rs_options.proofs.words.read_words.Goals as goal
+use Rattle.rs_options.proofs.words.read_command_line.Goals as goal
 
 is_simple_program : is_simple program ≡ true
 unfolding clap_on_literals
@@ -26,11 +26,11 @@ returns-in-Ok c =
     let kinds = c.in-Ok.ensures.kinds (ap is_simple_and_free known ∙ is_free_program) in
     let none : faults_in (map string_bytes c.args.words.items) ≡ [] = sym (ap₂ fault_of known words_are) ∙ kinds in
     record {
-      options = IfOk-weaker c.options_of.result _ _ (λ options held. subst (λ r. HoldOptions r options) rows held)
-          c.options_of.ensures.options;
-      taken = at_success c.options_of.result none;
-      refused = IfErr-weaker c.options_of.result _ _ (λ fault why. subst (λ k. SaysWhy k fault) (sym none) why)
-          c.options_of.ensures.refused;
+      line = IfOk-weaker c.command_line_of.result _ _ (λ line held. subst (λ r. HoldCommandLine r line) rows held)
+          c.command_line_of.ensures.line;
+      taken = at_success c.command_line_of.result none;
+      refused = IfErr-weaker c.command_line_of.result _ _ (λ fault why. subst (λ k. SaysWhy k fault) (sym none) why)
+          c.command_line_of.ensures.refused;
     }
 
 pub returns-clause-refused : goal.returns-clause-refused

@@ -1,0 +1,43 @@
+-- How the recorded files of the peers are opened: to be read within bounds, with the losses of each peer (our choice).
+use Rattle.std.specs.Prelude.{◌≡◌, ℕ, ◌==◌, false, List, Some, count_by, slice_get}
+use Rattle.std.specs.Option.{option_map_or}
+use Rattle.rs_choice.specs.Plan.{Peer, Plan}
+use Rattle.rs_losses.specs.Inserting.{Inserting, unbegun as unbegun_with_losses}
+use Rattle.rs_losses.specs.declared.losses.Sought.{Sought}
+use Rattle.rs_mrt.specs.Bounded.{Bounded, unbegun as unbegun_within}
+use Rattle.rs_mrt.specs.declared.bounds.FileReading.{FileReading}
+
+-- ---- whose losses are looked for
+
+-- how many peers have an AS number
+abbrev pub count_of_asn : List Peer → ℕ → ℕ
+count_of_asn peers asn = count_by (λ peer. peer.asn == asn) peers
+
+-- A peer, as its losses are looked for. No other peer has its AS number if only one peer has it.
+abbrev pub sought_among : List Peer → Peer → Sought
+sought_among peers peer = record {
+  address = peer.address;
+  asn = peer.asn;
+  alone = count_of_asn peers peer.asn == 1;
+}
+
+-- what stands for the peer of a number that no peer has
+abbrev pub nobody : Sought
+nobody = record { address = 0; asn = 0; alone = false }
+
+-- the peer of a number, among the peers of a plan
+abbrev pub sought_of : Plan → ℕ → Sought
+sought_of plan number = option_map_or (sought_among plan.peers) (slice_get plan.peers number) nobody
+
+-- ---- how files are read
+
+-- A file of which nothing was read. What is read of it is within these bounds, and has these losses of a peer.
+abbrev pub IsReadSo : {F : Type 0} → FileReading → Sought → Inserting (Bounded F) → Type 0
+IsReadSo reading who file =
+    file ≡ unbegun_with_losses (unbegun_within file.reader.reader reading.bounds) reading.losses who
+
+-- the file of each number is read so, with the losses of the peer of that number
+abbrev pub AreReadSo : {F : Type 0} → FileReading → Plan → List (Inserting (Bounded F)) → Type 0
+AreReadSo {F} reading plan files =
+    (number : ℕ) (file : Inserting (Bounded F)) → slice_get files number ≡ Some file
+    → IsReadSo reading (sought_of plan number) file
