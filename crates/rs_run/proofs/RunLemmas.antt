@@ -145,10 +145,20 @@ over-files-served gives errors plan readers served read Holds holds =
 module _ {O W : Type 0} (Over : (ServedContent → Type 0) → Type 0) (Fails : ℕ → Type 0)
     (kept : O → Option (List KeptDump)) (refusals : O → ℕ) (taken : W → Option (List ℕ)) (failures : W → ℕ)
     (plan : Plan) (time : ℕ) (outlet later_outlet : O) (report later_report : W) where
-  pub if-answers : {A : Type 0} (result : Result Ran RunFault) (fault : RunFault) → IsErrAnd result (λ found. found ≡ fault)
+  -- the same fault of another value
+  other-value : (A B : Type 0) (fault : RunFault)
+      → RunAnswer Over Fails kept refusals taken failures plan time outlet later_outlet report later_report {A = A} (Err fault)
+      → RunAnswer Over Fails kept refusals taken failures plan time outlet later_outlet report later_report {A = B} (Err fault)
+  other-value A B Memory answer = answer
+  other-value A B (Dump client) answer = answer
+  other-value A B Report answer = answer
+  other-value A B (Read peer) answer = answer
+  other-value A B (Unsettled peer) answer = answer
+
+  pub if-answers : (A : Type 0) (result : Result Ran RunFault) (fault : RunFault) → IsErrAnd result (λ found. found ≡ fault)
       → RunAnswer Over Fails kept refusals taken failures plan time outlet later_outlet report later_report {A = A} (Err fault)
       → RunIfAnswer Over Fails kept refusals taken failures plan time outlet later_outlet report later_report result
-  if-answers (Ok ran) fault same answer = absurd same
-  if-answers (Err failed) fault same answer =
+  if-answers A (Ok ran) fault same answer = absurd same
+  if-answers A (Err failed) fault same answer =
       subst (λ (f : RunFault). RunAnswer Over Fails kept refusals taken failures plan time outlet later_outlet report later_report
-      {A = Ran} (Err f)) (sym same) answer
+      {A = Ran} (Err f)) (sym same) (other-value A Ran fault answer)

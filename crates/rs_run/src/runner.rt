@@ -134,13 +134,18 @@ pub fn run_if<
 {
     let served = serve_recordings(rt, alloc, &setup.plan, sources, options)?;
     let ends = ends_of(alloc, &setup.plan, &served)?;
-    let is_written = is_wanted(&served);
-    if is_written {
-        write_served(rt, alloc, &setup.plan, served, options.time, outlet, report)?;
-    } else {
+    if !is_wanted(&served) {
         free_apart(rt, served);
+        return Ok(Ran {
+            ends,
+            is_written: false,
+        });
     }
-    Ok(Ran { ends, is_written })
+    write_served(rt, alloc, &setup.plan, served, options.time, outlet, report)?;
+    Ok(Ran {
+        ends,
+        is_written: true,
+    })
 }
 
 // How the session of each peer ended, in the order of the plan.

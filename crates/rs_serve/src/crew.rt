@@ -131,7 +131,7 @@ pub(crate) fn run<T: Threads + Wait + Sync, S: Source + Send + Drop, G: Gate>(
     errors: Errors,
     gate: &G,
 ) -> Option<Ran>
-    requires { All (HasFewOctets S.room) crew.lines.jobs.items }
+    requires room { All (HasFewOctets S.room) crew.lines.jobs.items }
     ensures { IfSome result (λ ran. HasRun S.comes S.shows (map (charge_of errors) crew.lines.jobs.items)
         (map of_shards.charge_of crew.rings.jobs.items) ran.ends.items ran.parts.items ran.whole) }
 {
@@ -139,7 +139,7 @@ pub(crate) fn run<T: Threads + Wait + Sync, S: Source + Send + Drop, G: Gate>(
         thread::scope_env(),
         rt,
         |scope| -> Option<Ran>
-            requires { All (HasFewOctets S.room) crew.lines.jobs.items }
+            requires room { All (HasFewOctets S.room) crew.lines.jobs.items }
             ensures { IfSome result (λ ran. HasRun S.comes S.shows (map (charge_of errors) crew.lines.jobs.items)
                 (map of_shards.charge_of crew.rings.jobs.items) ran.ends.items ran.parts.items ran.whole) }
         { run_in(scope, rt, alloc, crew, errors, gate) },
@@ -155,7 +155,7 @@ fn run_in<'s, E, T: Threads + Wait + Sync, S: Source + Send + Drop + 's, G: Gate
     errors: Errors,
     gate: &'s G,
 ) -> Option<Ran>
-    requires { All (HasFewOctets S.room) crew.lines.jobs.items }
+    requires room { All (HasFewOctets S.room) crew.lines.jobs.items }
     ensures { IfSome result (λ ran. HasRun S.comes S.shows (map (charge_of errors) crew.lines.jobs.items)
         (map of_shards.charge_of crew.rings.jobs.items) ran.ends.items ran.parts.items ran.whole) }
 {

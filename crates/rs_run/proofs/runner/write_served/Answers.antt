@@ -23,8 +23,8 @@ returns-in-Ok-clause-answer g c =
     c.in_ok-text.ensures.kept c.in_ok-text.ensures.no_failure (subst P c.as_bytes.ensures.value c.in-Ok.ensures.ok)
     c.in-Ok.ensures.ok_failures
 
-pub returns-in-Err-clause-answer : goal.returns-in-Err-clause-answer
-returns-in-Err-clause-answer g c =
+pub returns-clause-answer : goal.returns-clause-answer
+returns-clause-answer g c =
     let O = g.O.Outlet in
     let W = g.W.Write in
     let P : List ℕ → Type 0 = λ octets. AppendsBeginning (W.taken c.args.report.now) (W.taken c.write_all.new.out) octets in

@@ -22,7 +22,7 @@ returns-in-Some g c =
           c.settle.result c.settle.ensures.served c.settle.ensures.refused;
     }
 
-pub run-requires : goal.run-requires
-run-requires g c =
-    λ _. few-octets g.S.Source.room c.args.plan.now.value c.args.sources.items c.in_ok-crew.crew.lines.jobs.items
+pub run-requires-clause-room : goal.run-requires-clause-room
+run-requires-clause-room g c =
+    λ _ _. few-octets g.S.Source.room c.args.plan.now.value c.args.sources.items c.in_ok-crew.crew.lines.jobs.items
     c.in_ok-crew.crew.lines.from.items c.in_ok-crew.ensures.lines c.requires.room
