@@ -1,8 +1,7 @@
 //! What a run finds that is not clean: notes on the recorded files, and sessions that closed before the end of a file.
 
 use rs_host::{Options, Strictness};
-use rs_mrt::Losses;
-use rs_mrt::Tail;
+use rs_mrt::{Losses, Tail};
 use rs_notes::{
     Close, Ending, Notes, Outlines, Subject, Telling, add_filtered, notes_of, notes_on, print_texts,
 };
