@@ -62,7 +62,8 @@ impl Findings {
         }
     }
 
-    /// Whether each session closed at the end of its file, and there is no note.
+    /// Whether each session closed at the end of its file, and there is no note. If it isn't known whether there is one,
+    /// since memory or a read was refused, it isn't so.
     pub(crate) fn is_clean(&self) -> bool {
         !self.notes.any && self.closed == 0
     }

@@ -1,7 +1,8 @@
 //! What recorded files hold, and where they end, as notes tell of it.
 //!
 //! Our choices: if nobody made an outline of a file, the file is read once more, however many peers name it, and of each
-//! message only the type. A pipe gets no note, nor does a file that cannot be read.
+//! message only the type. A pipe gets no note, nor does a file that cannot be read. If all notes are wanted, one that
+//! cannot be read, though it is no pipe, counts as a note.
 
 use crate::cut::{Cut, cut_of};
 use crate::format::{FRONT_LEN, Format};
@@ -59,7 +60,8 @@ impl<'a> Contents<'a> {
         self.front.is_empty() && self.held.records() == 0 && self.held.end().is_none()
     }
 
-    /// Where the file ends within a record, if it is read up to a time. It is read once more if that isn't known.
+    /// Where the file ends within a record, if it is read up to a time. It is read once more if that isn't known. None if
+    /// memory or a read is refused.
     pub(crate) fn cut<R: AllocGlobal + Files>(&self, rt: &R, until: Option<u32>) -> Option<Cut> {
         match self.end {
             FileEnd::Unknown => cut_at(rt, self.path, until),
@@ -74,7 +76,8 @@ pub fn contents_of<'b, 'a>(all: &'b [Contents<'a>], path: &str) -> Option<&'b Co
     all.iter().find(|contents| contents.path == path)
 }
 
-/// Adds what the file at a path holds, if it can be read again.
+/// Adds what the file at a path holds, if it can be read again and memory isn't refused. `may_be_file` tells which file
+/// that leaves out is unknown.
 pub(crate) fn add_contents<'a, R: AllocGlobal + Files>(
     rt: &R,
     all: &mut Vec<Contents<'a>>,
@@ -121,6 +124,15 @@ pub(crate) fn is_file<R: Files>(rt: &R, path: &str) -> bool {
     match found_at(rt, path) {
         Ok(Some(found)) => found.is_file(),
         _ => false,
+    }
+}
+
+/// Whether the path may name such a file: it does, or memory to see that is refused.
+pub(crate) fn may_be_file<R: Files>(rt: &R, path: &str) -> bool {
+    match found_at(rt, path) {
+        Ok(Some(found)) => found.is_file(),
+        Ok(None) => false,
+        Err(_) => true,
     }
 }
 

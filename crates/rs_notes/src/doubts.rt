@@ -124,9 +124,7 @@ impl<'a> Doubts<'a> {
     pub(crate) fn add_to(&self, alloc: Global, subject: Subject<'_>, notes: &mut Notes) {
         notes.add_group(alloc, &self.empty, "their files are empty");
         if let Some(until) = subject.bounds.until {
-            if let Ok(several) = up_to_text(alloc, "them", until) {
-                notes.add_group(alloc, &self.later, &several);
-            }
+            notes.add_group_with(alloc, &self.later, up_to_text(alloc, "them", until));
         }
         notes.add_group(alloc, &self.unread, "messages of them are not read");
         if let Ok(several) = no_effect_text(alloc, subject.setup.plan.local().asn) {

@@ -1,7 +1,8 @@
 //! The notes on an exchange as a whole: files in which times go back, a subnet in which nobody is, and a server that no
 //! record names.
 //!
-//! Our choice: a server gets its note only if messages are recorded and each file could be read again.
+//! Our choices: a server gets its note only if messages are recorded and each file could be read again. If it isn't known
+//! whether a file names the server, the note counts, but has no text.
 
 use crate::contents::{Contents, contents_of, outline_at};
 use crate::note::{back_line, back_lines, server_line, subnet_line};
@@ -75,7 +76,7 @@ fn is_inside(subnet: Prefix, address: u32) -> bool {
 }
 
 // The text of the note on the server, if messages are recorded, but none of a session with it. If a file could not be
-// read again, nothing is known of its messages.
+// read again, nothing is known of its messages. It has no text if memory for that is refused, or a read that it needs.
 fn server_note<R: AllocGlobal + Files>(
     rt: &R,
     subject: Subject<'_>,
@@ -92,10 +93,16 @@ fn server_note<R: AllocGlobal + Files>(
     {
         return None;
     }
+    let mut known = true;
     for contents in all {
-        if names(rt, contents, subject.bounds, server) {
-            return None;
+        match names(rt, contents, subject.bounds, server) {
+            Some(true) => return None,
+            Some(false) => {}
+            None => known = false,
         }
+    }
+    if !known {
+        return Some(Err(AllocError));
     }
     Some(server_line(rt.alloc(), server, path, recorder))
 }
@@ -110,18 +117,16 @@ fn first_recorder<'a>(all: &[Contents<'a>]) -> Option<(&'a str, Peer)> {
     None
 }
 
-// Whether a message of a file names the server as its recorder.
+// Whether a message of a file names the server as its recorder; none if memory or a read is refused.
 fn names<R: AllocGlobal + Files>(
     rt: &R,
     contents: &Contents<'_>,
     bounds: Bounds,
     server: Peer,
-) -> bool {
-    if let Some(names_server) = contents.names_server {
-        return names_server;
+) -> Option<bool> {
+    if contents.names_server.is_some() {
+        return contents.names_server;
     }
-    match outline_at(rt, contents.path, bounds, Some(server)) {
-        Some(held) => held.recorder().is_some(),
-        None => true,
-    }
+    let held = outline_at(rt, contents.path, bounds, Some(server))?;
+    Some(held.recorder().is_some())
 }

@@ -1,6 +1,7 @@
 //! What the recorded file of a peer shows if nothing of it was kept.
 //!
-//! Our choices: a file isn't wrong if its records are only later than what is read. It is read once more to see that.
+//! Our choices: a file isn't wrong if its records are only later than what is read. It is read once more to see that. If
+//! memory or that reading is refused, what it shows is unknown.
 
 use crate::contents::{Contents, outline_at};
 use crate::hint::{Hint, hint_on};
@@ -21,6 +22,8 @@ pub(crate) enum Look {
     Later(u32),
     /// It is empty.
     Empty,
+    /// That isn't known: memory or a read was refused.
+    Unknown,
     /// There is nothing to note.
     Plain,
 }
@@ -43,7 +46,7 @@ pub(crate) fn look_at<R: AllocGlobal + Files>(
         return Look::Plain;
     }
     let Some(held) = outline_at(rt, contents.path, Bounds::none(), None) else {
-        return Look::Plain;
+        return Look::Unknown;
     };
     match first_of(&held, peer) {
         Some(first) => Look::Later(first),

@@ -1,7 +1,9 @@
 //! The notes on likely mistakes: a file of which nothing was kept, because it is of another format or has no record of
 //! its peer; and a file that ends within a record.
 //!
-//! Our choice: a file that ends within a record counts once, however many peers name it.
+//! Our choices: a file that ends within a record counts once, however many peers name it. If memory or a read is refused
+//! for where it ends, there is no note. That hides no reason for a status: its session closed early, which is one by
+//! itself, or its tail is left out as asked.
 
 use crate::contents::Contents;
 use crate::cut::Cut;

@@ -2,9 +2,10 @@
 //! which nothing was kept, and one that ends within a record. Notes on what is lawful and yet suspicious come only on
 //! demand.
 //!
-//! Our choice: a note that can't be made or written is left out.
+//! Our choices: a note that can't be made or written is left out, but it counts. If all notes are wanted, what isn't known
+//! of a file counts as a note, too: memory or a read was refused. So a run that may have a note isn't taken for clean.
 
-use crate::contents::{Contents, add_contents, contents_of};
+use crate::contents::{Contents, add_contents, contents_of, may_be_file};
 use crate::doubts::Doubts;
 use crate::exchange::add_exchange;
 use crate::group::Group;
@@ -30,7 +31,8 @@ pub struct Notes {
     /// Their texts, without those for which memory was refused.
     pub texts: Vec<String>,
     /// Whether there is any, but for those on what was asked for: tails that are left out, and large communities that
-    /// have no effect.
+    /// have no effect. One without a text counts. If all are wanted, so does one of which it isn't known whether it is
+    /// due, since memory or a read was refused.
     pub any: bool,
 }
 
@@ -60,6 +62,20 @@ impl Notes {
     pub(crate) fn add_group(&mut self, alloc: Global, group: &Group<'_>, several: &str) {
         self.any = self.any || !group.is_empty();
         self.add_group_as_asked(alloc, group, several);
+    }
+
+    /// Adds the one on a group of peers, if there is a peer. If memory for the text on several of them was refused, it
+    /// has no text, and counts.
+    pub(crate) fn add_group_with(
+        &mut self,
+        alloc: Global,
+        group: &Group<'_>,
+        several: Result<String, AllocError>,
+    ) {
+        self.any = self.any || !group.is_empty();
+        if let Ok(several) = several {
+            self.add_group_as_asked(alloc, group, &several);
+        }
     }
 
     /// Adds the one on a group of peers that have what was asked for, if there is a peer.
@@ -109,7 +125,8 @@ fn may_be_mistaken(tail: Tail, ending: Ending) -> bool {
     ending.changes == CLOSE_ALONE || may_be_cut(tail, ending.close)
 }
 
-/// The notes on the recorded files of an exchange, of which it is known what they hold within these bounds.
+/// The notes on the recorded files of an exchange, of which it is known what they hold within these bounds. If all are
+/// wanted, a file of which nothing is known counts as a note, but for one that gives its octets only once.
 pub fn notes_of<R: AllocGlobal + Files>(
     rt: &R,
     subject: Subject<'_>,
@@ -117,19 +134,19 @@ pub fn notes_of<R: AllocGlobal + Files>(
 ) -> Notes {
     let alloc = rt.alloc();
     let setup = subject.setup;
-    let mut told = ByPeer {
-        mistakes: Mistakes::none(alloc),
-        doubts: Doubts::none(alloc),
-        again: UnreadAgain::none(alloc),
-    };
+    let mut told = ByPeer::none(alloc);
     for peer in 0..setup.plan.count().min(setup.files.len()) {
-        if let Some(contents) = contents_of(all, &setup.files[peer]) {
+        let path = setup.files[peer].as_str();
+        if let Some(contents) = contents_of(all, path) {
             if let Some(ending) = ending_of(subject.endings, peer, &contents.held) {
                 told.take(rt, subject, setup.plan.peer(peer), contents, ending);
             }
+        } else if subject.telling == Telling::All && may_be_file(rt, path) {
+            told.is_unknown = true;
         }
     }
     let mut notes = Notes::none(alloc);
+    notes.any = told.is_unknown;
     told.mistakes.add_to(alloc, subject, &mut notes);
     if subject.telling == Telling::All {
         told.doubts.add_to(alloc, subject, &mut notes);
@@ -145,9 +162,21 @@ struct ByPeer<'a> {
     mistakes: Mistakes<'a>,
     doubts: Doubts<'a>,
     again: UnreadAgain<'a>,
+    // Whether it isn't known of some peer which notes are due.
+    is_unknown: bool,
 }
 
 impl<'a> ByPeer<'a> {
+    // No note yet.
+    fn none(alloc: Global) -> ByPeer<'a> {
+        ByPeer {
+            mistakes: Mistakes::none(alloc),
+            doubts: Doubts::none(alloc),
+            again: UnreadAgain::none(alloc),
+            is_unknown: false,
+        }
+    }
+
     // Takes the notes on a peer, whose session ended so.
     fn take<R: AllocGlobal + Files>(
         &mut self,
@@ -157,33 +186,45 @@ impl<'a> ByPeer<'a> {
         contents: &Contents<'a>,
         ending: Ending,
     ) {
-        let (alloc, path) = (rt.alloc(), contents.path);
-        let look = if ending.changes == CLOSE_ALONE {
-            look_at(rt, subject, spec, contents)
-        } else {
-            Look::Plain
-        };
-        match look {
-            Look::Wrong(hint, near) => {
-                self.mistakes.take_hint(alloc, spec, path, hint, near);
+        let alloc = rt.alloc();
+        if ending.changes == CLOSE_ALONE {
+            let look = look_at(rt, subject, spec, contents);
+            self.take_look(alloc, subject, spec, contents.path, look);
+            if let Look::Wrong(_, _) = look {
                 return;
             }
-            Look::Empty => self.doubts.take_empty(alloc, spec, path),
-            Look::Later(first) => {
-                self.doubts
-                    .take_later(alloc, spec, subject.bounds.until, first)
-            }
-            Look::Plain => {}
         }
         self.mistakes.take_cut(rt, subject, contents, ending);
         if subject.telling == Telling::Mistakes {
             return;
         }
-        if let Some(unread) = self.again.of(rt, subject, contents, peer_of(spec)) {
-            self.doubts.take_unread(alloc, subject, spec, unread);
+        match self.again.of(rt, subject, contents, peer_of(spec)) {
+            Some(unread) => self.doubts.take_unread(alloc, subject, spec, unread),
+            None => self.is_unknown = true,
         }
         self.doubts
             .take_sessions(alloc, subject, spec, contents, ending);
+    }
+
+    // Takes what the file of a peer shows, of which nothing was kept.
+    fn take_look(
+        &mut self,
+        alloc: Global,
+        subject: Subject<'a>,
+        spec: &'a PeerSpec,
+        path: &str,
+        look: Look,
+    ) {
+        match look {
+            Look::Wrong(hint, near) => self.mistakes.take_hint(alloc, spec, path, hint, near),
+            Look::Later(first) => {
+                self.doubts
+                    .take_later(alloc, spec, subject.bounds.until, first)
+            }
+            Look::Empty => self.doubts.take_empty(alloc, spec, path),
+            Look::Unknown => self.is_unknown = true,
+            Look::Plain => {}
+        }
     }
 }
 

@@ -1,7 +1,8 @@
 //! The outline of a recorded file whose octets come in pieces (RFC 6396, section 2).
 //!
 //! Our choices: it is what `read_outline` tells of the same octets within bounds.
-//! No contract says so, since only notes rest on it. If memory is refused, nothing is known of the file.
+//! No contract says so, since only notes rest on it. If memory is refused, nothing is known of the file: it is read once
+//! more.
 
 use crate::contents::{FileEnd, is_file};
 use crate::cut::Cut;

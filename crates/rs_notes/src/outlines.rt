@@ -1,7 +1,7 @@
 //! The outlines of the recorded files of an exchange, made while the files are read for something else.
 //!
 //! Our choices: a file that several peers name has one outline, which the first of them makes. The outline of a file
-//! that wasn't read to its end isn't known.
+//! that wasn't read to its end isn't known, nor is one for which memory was refused. Such a file is read once more.
 
 use crate::contents::{Contents, add_contents, contents_of, is_file};
 use crate::noting::Noting;
@@ -79,8 +79,8 @@ impl Outlines {
         }
     }
 
-    /// Takes what the files at these paths of the setup hold, without those that cannot be read again. A file whose
-    /// outline isn't known, or was taken before, is read for that.
+    /// Takes what the files at these paths of the setup hold, without those that cannot be read again, or for which
+    /// memory is refused. A file whose outline isn't known, or was taken before, is read for that.
     pub fn contents<'a, R: AllocGlobal + Files>(
         &self,
         rt: &R,
@@ -115,7 +115,8 @@ fn up_to(until: Option<u32>) -> Bounds {
     }
 }
 
-// Adds what the file at a path holds, if it can be read again. It is read if that isn't known yet.
+// Adds what the file at a path holds, if it can be read again and memory isn't refused. It is read if that isn't known
+// yet.
 fn add_known<'a, R: AllocGlobal + Files>(
     rt: &R,
     all: &mut Vec<Contents<'a>>,

@@ -1,5 +1,5 @@
 //! Which messages of a peer aren't read, also if nobody made an outline of its file: then the file is read once more,
-//! however many peers name it.
+//! however many peers name it. If memory or that reading is refused, nobody knows.
 
 use crate::contents::Contents;
 use crate::outline::outlined_at;
@@ -31,7 +31,7 @@ impl<'a> UnreadAgain<'a> {
         }
     }
 
-    /// How many messages of a peer in its file aren't read; none if that can't be known.
+    /// How many messages of a peer in its file aren't read. None if that can't be known: memory or a read is refused.
     pub(crate) fn of<R: AllocGlobal + Files>(
         &mut self,
         rt: &R,
