@@ -3,4 +3,6 @@ mod OctetLemmas
 mod HeldLemmas
 mod GoesOnLemmas
 mod LawLemmas
+mod CountLemmas
+mod StepLemmas
 mod ComesLemmas

@@ -25,16 +25,16 @@ losses_along f (r ∷ later) =
     then loss_record f.peer r.time ∷ r ∷ losses_along (behind_record (lost f) r) later
     else r ∷ losses_along (behind_record f r) later
 
+-- at the limit the one value, and else the other
+abbrev pub at_limit : {A : Type 0} → ℕ → A → A → A
+at_limit zero limit below = limit
+at_limit (suc left) limit below = below
+
 -- the records that are shown, if all of them take fewer than so many octets
 abbrev pub within : ℕ → List MrtRecord → List MrtRecord
 within left [] = []
 within left (r ∷ later) =
     if nat_lt (octets_of (Some r)) left then r ∷ within (left - octets_of (Some r)) later else []
-
--- at the limit the one value, and else the other
-abbrev pub at_limit : {A : Type 0} → ℕ → A → A → A
-at_limit zero limit below = limit
-at_limit (suc left) limit below = below
 
 -- the end behind them
 abbrev pub end_within : ℕ → List MrtRecord → Option SourceFault → Option SourceFault

@@ -4,11 +4,10 @@
 //! Our choices: all records of the other source are shown, in order. Records are shown as long as they take fewer than
 //! 2^50 octets in all. From that limit on each answer is a failed read.
 
-ghost use Rattle.std.specs.Prelude.{◌≡◌};
-ghost use Rattle.rs_mrt.specs.Record.{MrtRecord, octets_of, record_of};
+ghost use Rattle.std.specs.Prelude.{◌≡◌, false, List, Option, None, Some};
 ghost use Rattle.std.specs.Option.{option_map};
-ghost use Rattle.std.specs.Prelude.{List, None, Option, Some, false};
 ghost use Rattle.rs_mrt.specs.declared.fault.SourceFault.{SourceFault};
+ghost use Rattle.rs_mrt.specs.Record.{MrtRecord, octets_of, record_of};
 ghost use Rattle.rs_losses.specs.Inserting.{is_lost_before};
 ghost use Rattle.rs_losses.specs.Losses.{loss_record};
 ghost use Rattle.rs_mrt.specs.declared.losses.Losses.TheVariants.{Inferred};
@@ -134,7 +133,7 @@ impl<S: Source> WithLosses<S> {
         let octets = if lost {
             LOSS_LEN
         } else {
-            HEADER_LEN + record.body.len()
+            octets_of(Some(record))
         };
         self.followed = followed;
         self.put_in = lost;

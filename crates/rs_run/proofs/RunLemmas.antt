@@ -100,7 +100,7 @@ module _ {O W : Type 0} (Over Other : (ServedContent → Type 0) → Type 0) (Fa
   answers-over (Err Memory) answer =
       record {
         keeps_beginning = elim answer.keeps_beginning [
-          inl none ↦ inl none
+          | inl none ↦ inl none
           | inr some ↦ inr (over (λ served. GrowsByBeginning (kept outlet) (kept later_outlet) (dumps_of served.tables time)) some)
         ];
         no_failure = answer.no_failure;

@@ -4,8 +4,8 @@ ghost use Rattle.std.specs.Prelude.{◌≡◌, ◌≤◌, IfOk, length, map};
 ghost use Rattle.rs_run.specs.Run.{HasDumpsAndReportOf};
 
 use crate::runner::run;
-use rs_options::Options;
 use rs_mrt::{Limits, MemoryWriter};
+use rs_options::Options;
 use rs_outlet::{MemoryOutlet, OutletLimits, RunFault};
 use rs_serve::readers_of;
 use rs_setup::Setup;

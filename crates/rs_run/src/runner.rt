@@ -20,9 +20,9 @@ ghost use Rattle.rs_serve.specs.Served.{IsServedOver};
 
 use crate::report::add_peer_lines;
 use rs_choice::Exchange;
-use rs_options::Options;
 use rs_keep::keep_dumps;
 use rs_mrt::{Read, Source, Write, write_all};
+use rs_options::Options;
 use rs_outlet::{Outlet, RunFault};
 use rs_serve::{FloorRefused, Open, PeerEnd, Served, serve_by, serve_sources};
 use rs_session::a_session_closes_once;

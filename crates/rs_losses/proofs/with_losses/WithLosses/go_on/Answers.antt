@@ -1,7 +1,7 @@
 use Rattle.std.proofs.Common.{◌≡◌, ◌<◌, Err, None, Ok, false, true, ap, subst, sym, ◌∙◌, arith}
 use Rattle.std.proofs.lemmas.Result.{err_from_is_err_and}
 use Rattle.rs_losses.specs.WithLosses.{GoesOn, Inferring, IsThere}
-use Rattle.rs_losses.proofs.ComesLemmas.{behind-goes-on, end-goes-on, fault-goes-on, full-goes-on, met-goes-on}
+use Rattle.rs_losses.proofs.StepLemmas.{behind-goes-on, end-goes-on, fault-goes-on, full-goes-on, met-goes-on}
 use Rattle.rs_losses.proofs.with_losses.WithLosses.go_on.Goals as goal
 
 pub returns-then-self-eq0 : goal.returns-then-self-eq0
