@@ -6,14 +6,14 @@
 //! Supported standards: RFC 4271, RFC 6793, RFC 1997, RFC 7606, RFC 7947, RFC 6396.
 #![tactic(auto)]
 
-ghost use Rattle.std.specs.Prelude.{◌≡◌, ◌<◌, ◌≤◌, All, Some, IfErr, length};
+ghost use Rattle.std.specs.Prelude.{◌≡◌, ◌≤◌, ◌^◌, All, Some, IfErr, length};
 ghost use Rattle.rs_program.specs.Texts.{CanTell};
 
 mod findings;
 
 use crate::findings::Findings;
 use rs_host::{DONE, configuration};
-use rs_mrt::{Bounds, FileReading, IoWriter, Read, Tail};
+use rs_mrt::{Bounds, FileReading, IoWriter, Source, Tail};
 use rs_notes::Outlines;
 use rs_options::{Options, Strictness};
 use rs_program::{
@@ -21,7 +21,7 @@ use rs_program::{
     run_status,
 };
 use rs_run::{Ran, run_if};
-use rs_serve::{Served, record_readers};
+use rs_serve::Served;
 use rs_setup::Setup;
 use std::alloc::Global;
 use std::fs::Files;
@@ -76,9 +76,8 @@ where
 {
     let progress = progress_on(rt, terminal, &setup.files);
     let outlines = outlines_for(rt.alloc(), setup, reading.bounds, strict);
-    let files = ready_files(rt, setup, options, reading, |file| {
-        outlines.noting(Counted::new(file, &progress))
-    })?;
+    let counted = |file| Counted::new(file, &progress);
+    let files = ready_files(rt, setup, options, reading, counted, outlines.slots())?;
     let mut found = None;
     let ran = run_over(rt, setup, options, files, &progress, |served| {
         let findings = Findings::of(rt, setup, reading, strict, &outlines, served);
@@ -102,32 +101,31 @@ fn outlines_for(alloc: Global, setup: &Setup, bounds: Bounds, strict: Strictness
     }
 }
 
-// Runs over opened files: dumps go to the folder of the options, the report to standard output, if `is_wanted` says so
+// Runs over the records of opened files: dumps go to the folder of the options, the report to standard output, if `is_wanted` says so
 // by what is served.
 fn run_over<
     R: AllocGlobal + Files + Print + Threads + Wait + Sync,
-    F: Read + Send + Drop,
+    S: Source + Send + Drop,
     D: FnOnce(&Served) -> bool,
 >(
     rt: &R,
     setup: &Setup,
     options: &Options,
-    files: Vec<F>,
+    sources: Vec<S>,
     progress: &Progress<Stderr>,
     is_wanted: D,
 ) -> Result<Ran, Ended>
 where
     R::File: Send,
-    requires one_for_each { length files.items ≡ length setup.now.plan.value.peers }
+    requires one_for_each { length sources.items ≡ length setup.now.plan.value.peers }
     requires files { length setup.now.files.items ≡ length setup.now.plan.value.peers }
-    requires no_failure { All (λ file. F.failures file < u64.MAX) files.items }
+    requires room { All (λ source. S.room source ≤ 2 ^ 50) sources.items }
     requires ring { (1 ≤ options.now.ring) × (options.now.ring ≤ 65536) }
     requires shards { (1 ≤ options.now.shards) × (options.now.shards ≤ 16) }
     requires wanted { D.IsAlwaysCallable is_wanted }
     ensures { IfErr result (λ ended. CanTell ended (Some setup.entry) (Some options.entry)) }
 {
     let alloc = rt.alloc();
-    let sources = record_readers(alloc, files)?;
     let mut outlet = FolderOutlet::new(rt, alloc, &options.out);
     let mut report = IoWriter::new(Cleared::new(io::writer(rt), progress));
     let ran = run_if(

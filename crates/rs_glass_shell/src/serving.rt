@@ -9,7 +9,7 @@ use rs_mrt::{FileReading, Losses};
 use rs_notes::Outlines;
 use rs_opening::open_files;
 use rs_query::{CheckQuery, TablesQuery};
-use rs_serve::{FloorRefused, Open, Served, serve_by};
+use rs_serve::{FloorRefused, Open, Served, serve_sources};
 use rs_setup::Setup;
 use rs_update::Errors;
 use std::fs::Files;
@@ -94,9 +94,9 @@ where
         bounds: outlines.bounds(),
         losses: manner.losses,
     };
-    let files = open_files(rt, setup, reading, |file| outlines.noting(file))?;
+    let files = open_files(rt, setup, reading, |file| file, outlines.slots())?;
     let (shards, errors) = (manner.shards, manner.errors);
-    match serve_by(rt, alloc, &setup.plan, files, RING, shards, errors, &Open) {
+    match serve_sources(rt, alloc, &setup.plan, files, RING, shards, errors, &Open) {
         Ok(served) => Ok(served),
         Err(FloorRefused::Memory) => Err(Unanswered::Memory),
         Err(FloorRefused::Read(peer)) => match setup.files.get(peer) {

@@ -1,9 +1,7 @@
 -- Files that are read so, one more at a time.
 use Rattle.std.proofs.Common.{◌≡◌, ◌++◌, ◌⊎◌, ◌∷◌, [], ℕ, List, Some, ap, inl, inr, length, refl, slice_get, suc, zero}
 use Rattle.rs_choice.specs.Plan.{Plan}
-use Rattle.rs_losses.specs.Inserting.{Inserting}
-use Rattle.rs_mrt.specs.Bounded.{Bounded}
-use Rattle.rs_opening.specs.Opening.{AreReadSo, IsReadSo, sought_of}
+use Rattle.rs_opening.specs.Opening.{AreReadSo, IsReadSo, Replaying, sought_of}
 use Rattle.rs_mrt.specs.declared.bounds.FileReading.{FileReading}
 
 -- what stands at a place of a list with one more: what stood there, or the last one
@@ -18,8 +16,8 @@ at-pushed (z ∷ zs) x y (suc n) e = elim (at-pushed zs x y n e) [
 ]
 
 -- the file of the next number is one more that is read so
-pub one_more_read_so : {F : Type 0} (reading : FileReading) (plan : Plan) (files : List (Inserting (Bounded F)))
-    (file : Inserting (Bounded F)) → AreReadSo reading plan files → IsReadSo reading (sought_of plan (length files)) file
+pub one_more_read_so : {F : Type 0} (reading : FileReading) (plan : Plan) (files : List (Replaying F))
+    (file : Replaying F) → AreReadSo reading plan files → IsReadSo reading (sought_of plan (length files)) file
     → AreReadSo reading plan (files ++ file ∷ [])
 one_more_read_so reading plan files file before last number one at = elim (at-pushed files file one number at) [
   | inl there ↦ before number one there

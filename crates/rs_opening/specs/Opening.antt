@@ -2,9 +2,11 @@
 use Rattle.std.specs.Prelude.{◌≡◌, ℕ, ◌==◌, false, List, Some, count_by, slice_get}
 use Rattle.std.specs.Option.{option_map_or}
 use Rattle.rs_choice.specs.Plan.{Peer, Plan}
-use Rattle.rs_losses.specs.Inserting.{Inserting, unbegun as unbegun_with_losses}
+use Rattle.rs_inventory.specs.Outlining.{Outlining}
+use Rattle.rs_losses.specs.WithLosses.{Inferring, room_by, unbegun}
 use Rattle.rs_losses.specs.declared.losses.Sought.{Sought}
-use Rattle.rs_mrt.specs.Bounded.{Bounded, unbegun as unbegun_within}
+use Rattle.rs_mrt.specs.Leniency.{Leniency}
+use Rattle.rs_mrt.specs.RecordReading.{room_left, unread_until}
 use Rattle.rs_mrt.specs.declared.bounds.FileReading.{FileReading}
 
 -- ---- whose losses are looked for
@@ -31,13 +33,23 @@ sought_of plan number = option_map_or (sought_among plan.peers) (slice_get plan.
 
 -- ---- how files are read
 
--- A file of which nothing was read. What is read of it is within these bounds, and has these losses of a peer.
-abbrev pub IsReadSo : {F : Type 0} → FileReading → Sought → Inserting (Bounded F) → Type 0
+-- the records of a file that is read so far, its tail, its outline and its losses
+abbrev pub Replaying : Type 0 → Type 0
+Replaying F = Inferring (Leniency (Outlining F))
+
+-- A file of which nothing was read. Its records are shown up to this time, with this tail, and with these losses of a
+-- peer.
+abbrev pub IsReadSo : {F : Type 0} → FileReading → Sought → Replaying F → Type 0
 IsReadSo reading who file =
-    file ≡ unbegun_with_losses (unbegun_within file.reader.reader reading.bounds) reading.losses who
+    (file ≡ unbegun file.source reading.losses who) × (file.source.tail ≡ reading.bounds.tail)
+    × (file.source.source.source ≡ unread_until reading.bounds.until file.source.source.source.inflow.reader)
 
 -- the file of each number is read so, with the losses of the peer of that number
-abbrev pub AreReadSo : {F : Type 0} → FileReading → Plan → List (Inserting (Bounded F)) → Type 0
+abbrev pub AreReadSo : {F : Type 0} → FileReading → Plan → List (Replaying F) → Type 0
 AreReadSo {F} reading plan files =
-    (number : ℕ) (file : Inserting (Bounded F)) → slice_get files number ≡ Some file
+    (number : ℕ) (file : Replaying F) → slice_get files number ≡ Some file
     → IsReadSo reading (sought_of plan number) file
+
+-- how many octets a file still shows at most
+abbrev pub room_of : {F : Type 0} → Replaying F → ℕ
+room_of file = room_by file.losses (λ lenient. room_left lenient.source.source) file

@@ -1,7 +1,7 @@
 //! What the program does before the run, and how it ends: all but the run itself.
 
-ghost use Rattle.std.specs.Prelude.{◌≡◌, ◌+◌, ◌<◌, ◌≤◌, All, Some, IfErr, IfOk, length};
-ghost use Rattle.rs_opening.specs.Opening.{AreReadSo};
+ghost use Rattle.std.specs.Prelude.{◌≡◌, ◌≤◌, ◌^◌, All, Some, IfErr, IfOk, length};
+ghost use Rattle.rs_opening.specs.Opening.{AreReadSo, room_of};
 ghost use Rattle.rs_program.specs.Texts.{CanTell};
 
 use crate::ended::{Ended, status};
@@ -10,6 +10,7 @@ use crate::progress::Progress;
 use crate::texts::{PROGRAM, line};
 use crate::tried::first_unwritable;
 use rs_host::{each_on_one_line, end_with, read_arguments};
+use rs_inventory::OutlineSlot;
 use rs_mrt::FileReading;
 use rs_opening::{Replayed, open_files};
 use rs_options::{CommandLine, Options, WordsFault, read_command_line};
@@ -63,22 +64,22 @@ pub fn progress_on<R: Files>(
 
 /// Opens the recorded files of the peers, as `open_files` does, once each dump can be written: where one would take the
 /// place of a file that is read, or the folder takes no files, nothing is read or written.
-pub fn ready_files<R: AllocGlobal + Files, F: Read + Drop, O: Fn(R::File) -> F>(
+pub fn ready_files<'a, R: AllocGlobal + Files, F: Read + Drop, O: Fn(R::File) -> F>(
     rt: &R,
     setup: &Setup,
     options: &Options,
     reading: FileReading,
     observed: O,
-) -> Result<Vec<Replayed<F>>, Ended>
+    slots: &'a [Option<OutlineSlot>],
+) -> Result<Vec<Replayed<'a, F>>, Ended>
     requires observed { O.IsAlwaysCallable observed }
     requires one_for_each { length setup.now.files.items ≡ length setup.now.plan.value.peers }
     ensures one_for_each { IfOk result (λ files. length files.items ≡ length setup.now.files.items) }
     ensures read_so { IfOk result (λ files. AreReadSo reading setup.now.plan.value files.items) }
-    ensures no_failure { IfOk result (λ files.
-        All (λ file. file.reader.reader.failures + file.reader.refused + file.refused < u64.MAX) files.items) }
+    ensures room { IfOk result (λ files. All (λ file. room_of file ≤ 2 ^ 50) files.items) }
     ensures refused { IfErr result (λ ended. CanTell ended (Some setup.entry) (Some options.entry)) }
 {
-    let files = open_files(rt, setup, reading, observed)?;
+    let files = open_files(rt, setup, reading, observed, slots)?;
     match first_unwritable(rt, setup, options)? {
         Some(client) => Err(Ended::Run(RunFault::Dump(client))),
         None => Ok(files),
