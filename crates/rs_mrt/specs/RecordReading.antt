@@ -69,13 +69,14 @@ pub record MayBeShown (until : Option ℕ) (arrive : List ℕ → ReadEnd → Ty
 
 -- A reader of records: what arrives, the time up to which records are shown, the octets at hand behind the record
 -- that is shown, and that record. `stopped` is the answer that it repeats from now on, if it has reached an end or a
--- fault.
+-- fault. `place` is how many octets stand in the file before the record that was looked for last.
 pub record RecordReading (R : Type 0) : Type 0 where
   pub inflow : Inflow R
   pub until : Option ℕ
   pub held : List ℕ
   pub shown : Option MrtRecord
   pub stopped : Option (Result Bool SourceFault)
+  pub place : ℕ
 
 -- a reader of records before its first record, whose records end before the first one that is later than a time
 abbrev pub unread_until : {R : Type 0} → Option ℕ → R → RecordReading R
@@ -86,6 +87,7 @@ unread_until until reader =
       held = [];
       shown = None;
       stopped = None;
+      place = 0;
     }
 
 -- a reader of all records before its first one

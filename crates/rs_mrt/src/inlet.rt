@@ -35,6 +35,12 @@ impl<R> Inlet<R> {
     {
         Inlet { reader, came: 0 }
     }
+
+    pub(crate) fn came(&self) -> u64
+        ensures { result ≡ self.now.came }
+    {
+        self.came
+    }
 }
 
 impl<R: Read> Inlet<R> {

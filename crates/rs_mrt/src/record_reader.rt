@@ -4,9 +4,10 @@
 //! of a read ends the records, and the read isn't tried again. No more than 2^50 octets are taken. If there is a time,
 //! the records end before the first one that is later. Nothing behind the header of that record is asked for.
 
-ghost use Rattle.std.specs.Prelude.{◌≡◌, ◌+◌, ◌^◌, ◌<◌, ◌≤◌, length, true};
+ghost use Rattle.std.specs.Prelude.{◌≡◌, ◌+◌, ◌-◌, ◌^◌, ◌<◌, ◌≤◌, None, length, true};
 ghost use Rattle.rs_mrt.specs.Record.{octets_of};
 ghost use Rattle.rs_mrt.specs.Bounds.{rest_is_later};
+ghost use Rattle.rs_mrt.specs.Cut.{cut_of, ends_in_record, time_in};
 ghost use Rattle.rs_mrt.specs.RecordReading.{unread, unread_until, MayCome, StaysStopped, room_left, read_limit};
 ghost use Rattle.rs_mrt.specs.RecordReading.{something_comes};
 ghost use Rattle.rs_mrt.specs.Source.{Advances, CountsFailure, Stays, Stops};
@@ -14,6 +15,7 @@ ghost use Rattle.rs_mrt.specs.Inflow.{Finds, GoesOn};
 
 use crate::bgp4mp::FRONT_LEN;
 use crate::bounds::is_later;
+use crate::cut::Cut;
 use crate::fault::{MrtFault, SourceFault};
 use crate::inlet::Inlet;
 use crate::reader::Read;
@@ -22,6 +24,9 @@ use crate::source::Source;
 use crate::window::{WINDOW_LEN, Window};
 use byteorder::{BigEndian, ByteOrder};
 use std::marker::Model;
+
+// How many octets a Timestamp has.
+const TIME_LEN: usize = 4;
 
 /// The records of the octets that a reader gives. It holds no more of them than its buffer of 4,133 octets,
 /// which is part of the value, and takes no memory.
@@ -35,6 +40,8 @@ pub struct RecordReader<R: Read> {
     shown: Option<usize>,
     // The answer that it repeats from now on, after an end or a fault.
     stopped: Option<Result<bool, SourceFault>>,
+    // How many octets stand in the file before the record that was looked for last.
+    place: u64,
 }
 
 impl<R: Read> Model for RecordReader<R> {
@@ -49,6 +56,7 @@ impl<R: Read> Model for RecordReader<R> {
       held = held_behind r.shown r.window;
       shown = shown_in r.shown r.window;
       stopped = r.stopped;
+      place = r.place;
     } };
 
     ghost invariant = { λ r. ReaderFits r.shown r.window r.stopped r.inlet.came (R.failures r.inlet.reader) };
@@ -76,7 +84,42 @@ impl<R: Read> RecordReader<R> {
             until,
             shown: None,
             stopped: None,
+            place: 0,
         }
+    }
+
+    /// How many octets stand in the file before the record that is shown, or, at the end, before what is left of the
+    /// file.
+    pub fn place(&self) -> u64
+        ensures { result ≡ self.now.place }
+    {
+        self.place
+    }
+
+    /// The record that the end of the file cuts short (RFC 6396, section 2): given once `advance` answered that its
+    /// header or its body is cut short.
+    pub fn cut(&self) -> Option<Cut>
+        ensures { result ≡ cut_of self.now }
+    {
+        if !self.ends_in_record() {
+            return None;
+        }
+        let octets = self.window.octets();
+        Some(Cut {
+            octet: self.place,
+            len: self.inlet.came().saturating_sub(self.place),
+            time: time_in(octets),
+        })
+    }
+
+    // Whether the file ended in a record.
+    fn ends_in_record(&self) -> bool
+        ensures { result ≡ ends_in_record self.now.stopped }
+    {
+        matches!(
+            self.stopped,
+            Some(Err(SourceFault::Mrt(MrtFault::HeaderCutShort | MrtFault::BodyCutShort)))
+        )
     }
 
     // Drops the record that is shown.
@@ -96,7 +139,10 @@ impl<R: Read> RecordReader<R> {
         ensures goes_on { GoesOn R.gives R.failures self.old self.new result }
         ensures at_later { rest_is_later self.old.until self.old.held ≡ true
             → self.new.inflow.reader ≡ self.old.inflow.reader }
+        ensures place { self.new.place ≡ self.old.inflow.came - length self.old.held }
     {
+        let held = self.window.octets().len();
+        self.place = self.inlet.came().saturating_sub(held as u64);
         let answer = match find_front(&mut self.inlet, &mut self.window, self.until) {
             Ok(Some(len)) => {
                 self.shown = Some(len);
@@ -143,6 +189,8 @@ impl<R: Read> Source for RecordReader<R> {
         // Nor is it once the header of a record is at hand that is later than the time.
         ensures at_later { rest_is_later self.old.until self.old.held ≡ true
             → self.new.inflow.reader ≡ self.old.inflow.reader }
+        // The next record begins where those octets begin that came and stand behind the record that was shown.
+        ensures place { self.old.stopped ≡ None → self.new.place ≡ self.old.inflow.came - length self.old.held }
     {
         if let Some(answer) = self.stopped {
             return answer;
@@ -156,6 +204,16 @@ impl<R: Read> Source for RecordReader<R> {
         let octets = self.window.octets();
         Some(headed(octets, &octets[HEADER_LEN..HEADER_LEN + len]))
     }
+}
+
+// The Timestamp of a header that begins with these octets, if they are four or more.
+fn time_in(octets: &[u8]) -> Option<u32>
+    ensures { result ≡ time_in octets.now }
+{
+    if octets.len() < TIME_LEN {
+        return None;
+    }
+    Some(BigEndian::read_u32(octets))
 }
 
 // Reads until a record stands at the front of the window and its whole body came. Answers how many octets of the body

@@ -108,6 +108,13 @@ impl<S: Source> Session<S> {
         }
     }
 
+    /// The source whose records the session reads.
+    pub fn source(&self) -> &S
+        ensures { result.now ≡ self.now.source }
+    {
+        &self.source
+    }
+
     /// Gives the next change; after the close it answers None. A close says that the records ended, or why the
     /// session ended before. If memory is refused, the session is unchanged, and the next call gives the change if
     /// there is memory.

@@ -1,0 +1,29 @@
+-- A record that the end of its file cuts short, in its header or in its body (RFC 6396, section 2).
+use Rattle.std.specs.Prelude.{ℕ, ◌-◌, nat_le, if◌then◌else◌, Bool, true, false, List, length, Option, Some, None, Result, Ok}
+use Rattle.std.specs.Prelude.{Err}
+use Rattle.byteorder.specs.Endian.{big_number}
+use Rattle.rs_mrt.specs.declared.cut.Cut.{Cut}
+use Rattle.rs_mrt.specs.declared.fault.MrtFault.TheVariants.{HeaderCutShort, BodyCutShort}
+use Rattle.rs_mrt.specs.declared.fault.SourceFault.{SourceFault}
+use Rattle.rs_mrt.specs.declared.fault.SourceFault.TheVariants.{Mrt}
+use Rattle.rs_mrt.specs.RecordReading.{RecordReading}
+
+-- the records ended in the header or in the body of one
+abbrev pub ends_in_record : Option (Result Bool SourceFault) → Bool
+ends_in_record (Some (Err (Mrt HeaderCutShort))) = true
+ends_in_record (Some (Err (Mrt BodyCutShort))) = true
+ends_in_record other = false
+
+-- the Timestamp of a header that begins with these octets, if they are four or more
+abbrev pub time_in : List ℕ → Option ℕ
+time_in octets = if nat_le 4 (length octets) then Some (big_number 4 octets) else None
+
+-- The record that the end of the file cuts short, if there is one: where it begins, how many of its octets came, and
+-- its Timestamp. The octets at hand are the record's first ones then.
+abbrev pub cut_of : {R : Type 0} → RecordReading R → Option Cut
+cut_of reading =
+    if ends_in_record reading.stopped then Some (record {
+      octet = reading.place;
+      len = reading.inflow.came - reading.place;
+      time = time_in reading.held;
+    }) else None
