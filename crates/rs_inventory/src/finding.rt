@@ -123,7 +123,7 @@ impl Finding {
                 let (kind, news) = news_at(alloc, message, depth)?;
                 Ok(Finding {
                     kind,
-                    recorder: recorder_at(depth, recorder(record)),
+                    recorder: recorder(record),
                     note: Some(Note::of(peer, peer_as, news)),
                     ..nothing
                 })
@@ -188,33 +188,8 @@ pub fn recorder(record: &Record<'_>) -> Option<Peer>
     })
 }
 
-// The recorder, if it counts.
-fn recorder_at(depth: Depth, found: Option<Peer>) -> Option<Peer>
-    ensures { result ≡ recorder_at depth found }
-{
-    match depth {
-        Depth::Whole => found,
-        Depth::Outline(asked) => where_asked(asked, found),
-    }
-}
-
-// The recorder, if it is the one that is asked for; any one if none is asked for.
-fn where_asked(asked: Option<Peer>, found: Option<Peer>) -> Option<Peer>
-    ensures { result ≡ where_asked asked found }
-{
-    let Some(asked) = asked else {
-        return found;
-    };
-    let found = found?;
-    if is_peer(asked, found) {
-        Some(found)
-    } else {
-        None
-    }
-}
-
 // Whether two peers are equal.
-fn is_peer(one: Peer, other: Peer) -> bool
+pub(crate) fn is_peer(one: Peer, other: Peer) -> bool
     ensures { result ≡ is_peer one other }
 {
     one.address == other.address && one.asn == other.asn
@@ -227,7 +202,7 @@ fn news_at(alloc: Global, octets: &[u8], depth: Depth) -> Result<(Kind, News), A
 {
     match depth {
         Depth::Whole => message_news(alloc, octets),
-        Depth::Outline(_) => {
+        Depth::Outline => {
             let kind = kind_of_type(octets);
             Ok((kind, news_of_kind(octets, kind)))
         }

@@ -96,11 +96,11 @@ impl Inventory {
         alloc: Global,
         record: &Record<'_>,
     ) -> Result<Option<Peer>, AllocError>
-        ensures takes { IfOk result (λ _. TakesFinding self.old (finding_of (Outline None) (record_of «record».now)) self.new) }
+        ensures takes { IfOk result (λ _. TakesFinding self.old (finding_of Outline (record_of «record».now)) self.new) }
         ensures compression { IfOk result (λ _. self.new.compression ≡ self.old.compression) }
-        ensures recorder { IfOk result (λ peer. peer ≡ (finding_of (Outline None) (record_of «record».now)).recorder) }
+        ensures recorder { IfOk result (λ peer. peer ≡ (finding_of Outline (record_of «record».now)).recorder) }
     {
-        let finding = Finding::of(alloc, record, Depth::Outline(None))?;
+        let finding = Finding::of(alloc, record, Depth::Outline)?;
         self.take(alloc, finding)?;
         Ok(finding.recorder)
     }

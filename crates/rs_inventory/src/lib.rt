@@ -4,7 +4,8 @@
 //! Reading order, files and records first: `compression` (a file that isn't records), `kind` (what a record is),
 //! `opening` (what an OPEN tells). Then what one record adds: `depth`, `finding` and `outline`. Then what is known of one
 //! peer: `sessions`, `course` and `peer`. Then what is known of one file: `back` (where its times go back) and
-//! `inventory`. Last how a file is read: `front` and `reading`.
+//! `inventory`. Then what its outline tells: `unread`, `file_outline`, `outline_slot` and `outlined_records`. Last how a
+//! file is read: `front` and `reading`.
 //!
 //! A call that allocates fails if memory is refused.
 #![tactic(auto)]
@@ -13,23 +14,31 @@ mod back;
 mod compression;
 mod course;
 mod depth;
+mod file_outline;
 mod finding;
 mod front;
 mod inventory;
 mod kind;
 mod opening;
 mod outline;
+mod outline_slot;
+mod outlined_records;
 mod peer;
 mod reading;
 mod sessions;
+mod unread;
 
 pub use back::Back;
 pub use compression::Compression;
 pub use course::Course;
+pub use file_outline::Outline;
 pub use finding::{News, Note, recorder};
 pub use inventory::Inventory;
 pub use kind::Kind;
 pub use outline::outlined;
+pub use outline_slot::OutlineSlot;
+pub use outlined_records::Outlined;
 pub use peer::{Peer, PeerRecords};
-pub use reading::{InventoryFault, read_inventory, read_outline};
+pub use reading::{InventoryFault, outline_of, read_inventory, read_outline};
 pub use sessions::SessionTimes;
+pub use unread::{Unread, UnreadMessages};

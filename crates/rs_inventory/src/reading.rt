@@ -9,11 +9,12 @@ ghost use Rattle.rs_inventory.specs.declared.reading.InventoryFault.TheVariants.
 
 use crate::compression::Compression;
 use crate::depth::Depth;
+use crate::file_outline::Outline;
 use crate::finding::Finding;
 use crate::front::{Front, Whole};
 use crate::inventory::Inventory;
 use crate::peer::Peer;
-use rs_mrt::{Failed, MrtFault, Read, RecordReader, Source, SourceFault};
+use rs_mrt::{Bounds, Failed, Lenient, MrtFault, Read, RecordReader, Source, SourceFault};
 use std::alloc::{AllocError, Global};
 use thiserror::Error;
 
@@ -44,69 +45,56 @@ impl From<Failed> for InventoryFault {
     }
 }
 
-/// Reads a recorded file and tells what it holds: whether it is compressed, and of one that isn't what its records say.
-/// Of a compressed one no record is read, so it tells of no record, no peer and no end. Memory is taken for its peers
-/// and their sessions, not for its octets.
+/// Reads a recorded file and tells what it holds: whether it is compressed, and of one that isn't what its records say,
+/// as far as the bounds go. Of a compressed one no record is read, so it tells of no record, no peer and no end. Memory
+/// is taken for its peers and their sessions, not for its octets.
 ///
 /// `Read` is answered if a read fails, or 2^50 octets come of the reader; `Memory` if memory is refused.
-pub fn read_inventory<R: Read + Drop>(alloc: Global, reader: R) -> Result<Inventory, InventoryFault>
-    requires { R.failures reader < u64.MAX }
-    // It is compressed as octets are that the reader may give.
-    ensures compressed { IfOk result (λ held. MayBeCompressed R.gives reader held.compression) }
-    // Of a compressed file nothing is counted, no peer is known, and no end.
-    ensures unread { IfOk result (λ held. IfSome held.compression (λ _. HoldsNothing held)) }
-    // Of a file that isn't it is the inventory of records that the reader may give, to their end.
-    ensures records { IfOk result (λ held. held.compression ≡ None
-        → IsInventoryOf (MayCome R.gives) (unread reader) held) }
-    // A read is only said to fail if the reader may fail, or give as many octets as are taken of it.
-    ensures read { IsErrOf result Read → MayFail (MayCome R.gives) (unread reader) }
-{
-    read_at(alloc, reader, Depth::Whole)
-}
-
-/// Reads a recorded file as `read_inventory` does, but of each message only its type: whether it has a fault, and how
-/// many prefixes it lists, isn't told. If a recorder is given, no other one counts.
-///
-/// `Read` is answered if a read fails, or 2^50 octets come of the reader; `Memory` if memory is refused.
-pub fn read_outline<R: Read + Drop>(
-    alloc: Global,
-    reader: R,
-    recorder: Option<Peer>,
-) -> Result<Inventory, InventoryFault>
-    requires { R.failures reader < u64.MAX }
-    // It is compressed as octets are that the reader may give.
-    ensures compressed { IfOk result (λ held. MayBeCompressed R.gives reader held.compression) }
-    // Of a compressed file nothing is counted, no peer is known, and no end.
-    ensures unread { IfOk result (λ held. IfSome held.compression (λ _. HoldsNothing held)) }
-    // Of a file that isn't it is the outline of records that the reader may give, to their end.
-    ensures records { IfOk result (λ held. held.compression ≡ None
-        → IsOutlineOf recorder (MayCome R.gives) (unread reader) held) }
-    // A read is only said to fail if the reader may fail, or give as many octets as are taken of it.
-    ensures read { IsErrOf result Read → MayFail (MayCome R.gives) (unread reader) }
-{
-    read_at(alloc, reader, Depth::Outline(recorder))
-}
-
-// Reads a recorded file, its messages so deep.
-fn read_at<R: Read + Drop>(
+pub fn read_inventory<R: Read + Drop>(
     alloc: Global,
     mut reader: R,
-    depth: Depth,
+    bounds: Bounds,
 ) -> Result<Inventory, InventoryFault>
     requires { R.failures reader < u64.MAX }
-    ensures compressed { IfOk result (λ held. MayBeCompressed R.gives reader held.compression) }
-    ensures unread { IfOk result (λ held. IfSome held.compression (λ _. HoldsNothing held)) }
-    ensures records { IfOk result (λ held. held.compression ≡ None
-        → IsReadingOf depth (MayCome R.gives) (unread reader) held) }
-    ensures read { IsErrOf result Read → MayFail (MayCome R.gives) (unread reader) }
 {
     let front = Front::of(&mut reader)?;
     if let Some(compression) = Compression::of(front.octets()) {
         return Ok(Inventory::none(alloc, Some(compression)));
     }
-    let source = RecordReader::new(Whole::new(front, reader));
-    let inventory = take_records(alloc, source, depth)?;
+    let records = RecordReader::up_to(Whole::new(front, reader), bounds.until);
+    let inventory = take_records(alloc, Lenient::new(records, bounds.tail), Depth::Whole)?;
     Ok(inventory)
+}
+
+/// The inventory of all records of a source, but of each message only its type: whether it has a fault, and how many
+/// prefixes it lists, isn't told.
+///
+/// `Read` is answered if a read fails, or the source takes no more octets; `Memory` if memory is refused.
+pub fn read_outline<S: Source + Drop>(
+    alloc: Global,
+    source: S,
+) -> Result<Inventory, InventoryFault> {
+    take_records(alloc, source, Depth::Outline)
+}
+
+/// Reads all records of a reader and answers their outline. The server is named as records name it.
+///
+/// `Read` is answered if a read fails, or the reader takes no more octets; `Memory` if memory is refused.
+pub fn outline_of<R: Read + Drop>(
+    alloc: Global,
+    mut source: RecordReader<R>,
+    server: Peer,
+) -> Result<Outline, InventoryFault> {
+    let mut outline = Outline::none(alloc);
+    let mut end = None;
+    while next_record(&mut source, &mut end)? {
+        let Some(record) = source.shown() else {
+            unreachable!();
+        };
+        outline.take(alloc, &record, server)?;
+    }
+    outline.take_end(end, source.cut());
+    Ok(outline)
 }
 
 // The inventory of all records of a source.
@@ -114,45 +102,34 @@ fn take_records<S: Source + Drop>(
     alloc: Global,
     mut source: S,
     depth: Depth,
-) -> Result<Inventory, InventoryFault>
-    ensures records { IfOk result (IsReadingOf depth S.comes source) }
-    ensures uncompressed { IfOk result (λ held. held.compression ≡ None) }
-    ensures read { IsErrOf result Read → MayFail S.comes source }
-{
+) -> Result<Inventory, InventoryFault> {
     let mut inventory = Inventory::none(alloc, None);
     let mut end = None;
-    while let Some(finding) = next_finding(alloc, &mut source, depth, &mut end)? {
-        inventory.take(alloc, finding)?;
+    while next_record(&mut source, &mut end)? {
+        let Some(record) = source.shown() else {
+            unreachable!();
+        };
+        inventory.take(alloc, Finding::of(alloc, &record, depth)?)?;
     }
     inventory.take_end(end);
     Ok(inventory)
 }
 
-// Goes to the next record and answers what it adds. If there is none, it answers how the records end.
-fn next_finding<S: Source>(
-    alloc: Global,
+// Goes to the next record and answers whether there is one. If there is none, it answers how the records end.
+fn next_record<S: Source>(
     source: &mut S,
-    depth: Depth,
     end: &mut Option<MrtFault>,
-) -> Result<Option<Finding>, InventoryFault>
-    ensures gives { IfOk result (GivesFinding depth S.comes source.old source.new end.new) }
-    ensures room { IfOk result (λ found. IfSome found (λ _. S.room source.new + 12 ≤ S.room source.old)) }
-    ensures read { IsErrOf result Read → MayFail S.comes source.old }
-{
+) -> Result<bool, InventoryFault> {
     match source.advance() {
-        Ok(true) => {}
+        Ok(true) => Ok(true),
         Ok(false) => {
             *end = None;
-            return Ok(None);
+            Ok(false)
         }
         Err(SourceFault::Mrt(fault)) => {
             *end = Some(fault);
-            return Ok(None);
+            Ok(false)
         }
-        Err(SourceFault::Read) => return Err(InventoryFault::Read),
+        Err(SourceFault::Read) => Err(InventoryFault::Read),
     }
-    let Some(record) = source.shown() else {
-        unreachable!();
-    };
-    Ok(Some(Finding::of(alloc, &record, depth)?))
 }

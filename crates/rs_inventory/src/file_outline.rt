@@ -1,0 +1,60 @@
+//! What the outline of a recorded file tells: of each message no more than the type is read (RFC 4271, section 4.1).
+
+use crate::finding::is_peer;
+use crate::inventory::Inventory;
+use crate::peer::Peer;
+use crate::unread::UnreadMessages;
+use rs_mrt::{Cut, MrtFault, Record};
+use std::alloc::{AllocError, Global};
+
+/// What is known of a file of records by its outline: of each message no more than the type is read.
+#[derive(Drop)]
+pub struct Outline {
+    /// What the records hold. Its end is the fault by which the file ends, if it does.
+    pub held: Inventory,
+    /// Whether a message of a session with four-octet AS numbers names the server as its recorder.
+    pub names_server: bool,
+    /// Which messages aren't read.
+    pub unread: UnreadMessages,
+    /// The record that the end of the file cuts short; none if the file ends after whole records.
+    pub cut: Option<Cut>,
+}
+
+impl Outline {
+    // That of no record.
+    pub(crate) fn none(alloc: Global) -> Outline {
+        Outline {
+            held: Inventory::none(alloc, None),
+            names_server: false,
+            unread: UnreadMessages::none(alloc),
+            cut: None,
+        }
+    }
+
+    // Takes the next record. If memory is refused, it may lack a part of the record.
+    pub(crate) fn take(
+        &mut self,
+        alloc: Global,
+        record: &Record<'_>,
+        server: Peer,
+    ) -> Result<(), AllocError> {
+        let recorder = self.held.take_outline(alloc, record)?;
+        self.names_server = self.names_server || is_recorder(recorder, server);
+        self.unread.take(record, server.asn)?;
+        Ok(())
+    }
+
+    // Takes how the file ends.
+    pub(crate) fn take_end(&mut self, end: Option<MrtFault>, cut: Option<Cut>) {
+        self.held.take_end(end);
+        self.cut = cut;
+    }
+}
+
+// Whether the recorder of a message, if it has one, is the server.
+fn is_recorder(recorder: Option<Peer>, server: Peer) -> bool {
+    match recorder {
+        Some(recorder) => is_peer(recorder, server),
+        None => false,
+    }
+}
