@@ -133,7 +133,8 @@ pub fn run_if<
     ensures back { AreSameNames (O.started outlet.old) (O.started outlet.new) }
 {
     let served = serve_recordings(rt, alloc, &setup.plan, sources, options)?;
-    let ends = ends_of(alloc, &setup.plan, &served)?;
+    let mut ends = Vec::with_capacity(alloc, served.ends().len())?;
+    ends.extend_from_slice(served.ends())?;
     if !is_wanted(&served) {
         free_apart(rt, served);
         return Ok(Ran {
@@ -146,19 +147,6 @@ pub fn run_if<
         ends,
         is_written: true,
     })
-}
-
-// How the session of each peer ended, in the order of the plan.
-fn ends_of(alloc: Global, plan: &Exchange, served: &Served) -> Result<Vec<PeerEnd>, AllocError>
-    requires plan { served.now.tables.plan ≡ plan.now }
-    requires one_for_each { length served.now.ends ≡ length plan.now.peers }
-    ensures { IfOk result (λ ends. ends.items ≡ served.now.ends) }
-{
-    let mut ends = Vec::with_capacity(alloc, plan.count())?;
-    for peer in 0..plan.count() {
-        ends.push(served.end(peer))?;
-    }
-    Ok(ends)
 }
 
 // Frees tables on a thread for which nobody waits. Freeing big tables takes a second, and the caller may be about to

@@ -44,6 +44,13 @@ impl Served {
         &self.tables
     }
 
+    /// How the session of each peer ended, in the order of the peers.
+    pub fn ends(&self) -> &[PeerEnd]
+        ensures { result.now ≡ self.now.ends }
+    {
+        &self.ends
+    }
+
     /// How the session of the peer of number `peer` ended.
     pub fn end(&self, peer: usize) -> PeerEnd
         requires { peer < length self.now.tables.plan.peers }

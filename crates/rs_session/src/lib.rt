@@ -4,13 +4,15 @@
 //! - Whose a change is: `peer`. The change itself is of the crate `rs_change`.
 //! - One record: `withdrawn` and `pending` (its changes), `effect` (what it says), `beside` (whether it may be passed
 //!   over if one prefix is asked for).
-//! - One session: `session` (one change after another), `passing` (only those on one prefix).
+//! - One session: `session` (one change after another), `passing` (only those on one prefix), `closing` (where it
+//!   closed).
 //! - What holds of the definitions that the contracts cite: `laws`.
 //!
 //! A call that allocates fails if memory is refused.
 #![tactic(auto)]
 
 mod beside;
+mod closing;
 mod effect;
 mod laws;
 mod passing;
@@ -19,6 +21,7 @@ mod pending;
 mod session;
 mod withdrawn;
 
+pub use closing::is_cut_short;
 pub use effect::{Effect, read_record};
 pub use laws::{
     a_failed_read_closes_last, a_file_says_no_more_changes_than_octets,
