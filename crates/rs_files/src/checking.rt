@@ -16,10 +16,11 @@ use crate::recordings::inventory_at;
 use crate::refused::refusal_text;
 use crate::unreadable::unreadable_text;
 use rs_glass_shell::{Reply, Unanswered, served_as_checked};
-use rs_host::{DONE, FAILED, NOT_CLEAN, REFUSED, Unready, configuration_of, found_at, read_file};
+use rs_host::{DONE, FAILED, NOT_CLEAN, REFUSED, Unready, configuration_of, read_file};
 use rs_mrt::{Bounds, Losses};
 use rs_notes::{
-    Close, Contents, Ending, Notes, Subject, Telling, add_filtered, contents_of, front_at, notes_of,
+    Close, Contents, Ending, Notes, Subject, Telling, add_filtered, contents_of, is_file, notes_of,
+    read_contents,
 };
 use rs_query::CheckQuery;
 use rs_setup::{Setup, SetupFault};
@@ -84,20 +85,20 @@ where
     if !text.is_empty() {
         return Ok(told(rt.alloc(), text, FAILED));
     }
-    let files = contents_in_full(rt, &setup.files, query.bounds)?;
+    let files = contents_in_full(rt, setup, query.bounds)?;
     check_contents(rt, setup, &files, query)
 }
 
-// What the files of these paths hold within bounds, without those that may give their octets only once.
+// What the files of a setup hold within bounds, without those that may give their octets only once.
 fn contents_in_full<'a, R: AllocGlobal + Files>(
     rt: &R,
-    paths: &'a [String],
+    setup: &'a Setup,
     bounds: Bounds,
 ) -> Result<Vec<Contents<'a>>, Unanswered> {
     let mut files = Vec::new(rt.alloc());
-    for path in paths {
+    for path in &setup.files {
         if contents_of(&files, path).is_none() && is_file(rt, path)? {
-            let contents = read_contents(rt, path, bounds)?;
+            let contents = contents_at(rt, setup, path, bounds)?;
             let Ok(()) = files.push(contents) else {
                 return Err(Unanswered::Memory);
             };
@@ -106,26 +107,20 @@ fn contents_in_full<'a, R: AllocGlobal + Files>(
     Ok(files)
 }
 
-// Whether the path names a file that gives its octets each time it is read.
-fn is_file<R: Files>(rt: &R, path: &str) -> Result<bool, AllocError> {
-    match found_at(rt, path)? {
-        Some(found) => Ok(found.is_file()),
-        None => Ok(false),
-    }
-}
-
-// What the file at a path holds within bounds. If its first octets can't be read again, no other format is noted.
-fn read_contents<'a, R: AllocGlobal + Files>(
+// What the file at a path of a setup holds within bounds. Its messages are read whole, too.
+fn contents_at<'a, R: AllocGlobal + Files>(
     rt: &R,
+    setup: &Setup,
     path: &'a str,
     bounds: Bounds,
 ) -> Result<Contents<'a>, Unready> {
-    let held = inventory_at(rt, path, bounds)?;
-    let front = match front_at(rt, path) {
-        Some(front) => front,
-        None => Vec::new(rt.alloc()),
-    };
-    Ok(Contents::new(path, front, held))
+    match read_contents(rt, setup, path, bounds) {
+        Ok(mut contents) => {
+            contents.held = inventory_at(rt, path, bounds)?;
+            Ok(contents)
+        }
+        Err(fault) => Err(Unready::by_file(rt.alloc(), fault, path)),
+    }
 }
 
 // Says what was read of import policy, what these files have of each peer of a setup, where its session closes, and the

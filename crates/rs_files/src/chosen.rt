@@ -5,7 +5,8 @@
 
 use crate::table_faults::{by_table, none_until};
 use rs_glass_shell::Unanswered;
-use rs_host::{Unready, Utc, found_at, open_file};
+use rs_host::{Unready, Utc, open_file};
+use rs_notes::is_file;
 use rs_query::StartQuery;
 use rs_start::{TableReader, Tables};
 use std::alloc::AllocError;
@@ -37,7 +38,7 @@ pub(crate) fn take_table<R: AllocGlobal + Files>(
     rt: &R,
     query: &StartQuery,
 ) -> Result<Chosen, Unanswered> {
-    if !is_on_disk(rt, &query.table)? {
+    if !is_file(rt, &query.table)? {
         return Ok(Chosen {
             piped: true,
             ..FIRST
@@ -56,14 +57,6 @@ pub(crate) fn take_table<R: AllocGlobal + Files>(
             piped: false,
         }),
         None => Err(none_until(rt.alloc(), &query.table, until, *first)),
-    }
-}
-
-// Whether a path names a file that can be read twice.
-fn is_on_disk<R: AllocGlobal + Files>(rt: &R, path: &str) -> Result<bool, AllocError> {
-    match found_at(rt, path)? {
-        Some(found) => Ok(found.is_file()),
-        None => Ok(false),
     }
 }
 

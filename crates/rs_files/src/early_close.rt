@@ -3,22 +3,19 @@
 
 ghost use Rattle.std.specs.Prelude.{◌<◌};
 
-use crate::placed_records::PlacedRecords;
 use rs_host::{Unready, open_file};
-use rs_mrt::{BoundedReader, Read, RecordReader, Source};
+use rs_mrt::{Bounds, Lenient, Read, RecordReader, Source};
 use rs_query::CheckQuery;
 use rs_session::{Body, PeerId, Reason, Session};
 use rs_update::Errors;
 use std::alloc::{AllocError, Global};
-use std::cell::Cell;
 use std::fs::Files;
 
 /// Where a session closes before the end of its file.
 #[derive(Clone, Copy, Drop)]
 pub(crate) struct EarlyClose {
-    /// How many octets stand before the record that closes it; none if an earlier one is longer than any of a
-    /// session.
-    pub(crate) octet: Option<u64>,
+    /// How many octets stand before the record that closes it.
+    pub(crate) octet: u64,
     /// Why.
     pub(crate) reason: Reason,
     /// Whether the end of the file cuts the record short.
@@ -36,10 +33,7 @@ pub(crate) fn early_close_at<R: AllocGlobal + Files>(
 ) -> Result<Option<EarlyClose>, Unready> {
     let alloc = rt.alloc();
     let close = match open_file(rt, path) {
-        Ok(file) => {
-            let reader = BoundedReader::new(alloc, file, query.bounds);
-            close_of(alloc, reader, peer, query.errors)?
-        }
+        Ok(file) => close_of(alloc, file, query.bounds, peer, query.errors)?,
         Err(fault) => return Err(Unready::by_file(alloc, fault, path)),
     };
     match close.reason {
@@ -49,24 +43,21 @@ pub(crate) fn early_close_at<R: AllocGlobal + Files>(
     }
 }
 
-// Where the session of a peer closes in the file that a reader gives.
+// Where the session of a peer closes in the file that a reader gives, within bounds.
 fn close_of<R: Read + Drop>(
     alloc: Global,
     reader: R,
+    bounds: Bounds,
     peer: PeerId,
     errors: Errors,
 ) -> Result<EarlyClose, AllocError>
     requires { R.failures reader < u64.MAX }
 {
-    let octet = Cell::new(Some(0));
-    let records = PlacedRecords {
-        records: RecordReader::new(reader),
-        octet: &octet,
-    };
+    let records = Lenient::new(RecordReader::up_to(reader, bounds.until), bounds.tail);
     let mut session = Session::over_by(alloc, records, peer, errors);
     let reason = reason_of(&mut session)?;
     Ok(EarlyClose {
-        octet: octet.get(),
+        octet: session.source().source().place(),
         reason,
         is_cut: session.shown().is_none(),
     })

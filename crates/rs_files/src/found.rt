@@ -20,8 +20,8 @@ pub(crate) enum Found<'a> {
     /// standard treats any so.
     Records(&'a str, &'a PeerRecords, Option<u64>),
     /// The session closes before the end of its file, for this reason. Before the record that closes it stand so many
-    /// octets, if that is known.
-    Closes(&'a str, Option<u64>),
+    /// octets.
+    Closes(&'a str, u64),
     /// Import policy asks nothing of the peer's routes.
     Unasked,
     /// The peer has a prefix list with so many entries.
@@ -45,8 +45,7 @@ impl fmt::Display for Found<'_> {
             Found::Unread(path) => write!(f, "{path} is no regular file, and is not read here"),
             Found::NoRecord(path) => write!(f, "{path}: records 0"),
             Found::Records(path, records, treated) => write_records(f, path, records, treated),
-            Found::Closes(reason, None) => write!(f, "the session closes by {reason}"),
-            Found::Closes(reason, Some(octet)) => {
+            Found::Closes(reason, octet) => {
                 write!(
                     f,
                     "the session closes by {reason}, in the record at octet {octet}"

@@ -6,7 +6,7 @@ use crate::recorded_file::RecordedFile;
 use rs_glass_shell::Unanswered;
 use rs_host::{Unready, first_unreadable, open_file};
 use rs_inventory::{Inventory, InventoryFault, read_inventory};
-use rs_mrt::{BoundedReader, Bounds};
+use rs_mrt::Bounds;
 use rs_notes::format_at;
 use rs_query::PeersQuery;
 use std::fs::Files;
@@ -64,7 +64,7 @@ pub(crate) fn inventory_at<R: AllocGlobal + Files>(
         Ok(file) => file,
         Err(fault) => return Err(Unready::by_file(alloc, fault, path)),
     };
-    match read_inventory(alloc, BoundedReader::new(alloc, file, bounds)) {
+    match read_inventory(alloc, file, bounds) {
         Ok(inventory) => Ok(inventory),
         Err(InventoryFault::Memory) => Err(Unready::Memory),
         Err(InventoryFault::Read) => Err(Unready::by_path(alloc, path)),

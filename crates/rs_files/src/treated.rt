@@ -2,10 +2,8 @@
 //!
 //! Our choice: those behind the close of the session don't count, since a run doesn't read them.
 
-ghost use Rattle.std.specs.Prelude.{◌<◌};
-
 use rs_host::{Unready, open_file};
-use rs_mrt::{BoundedReader, Entry, Read, Record, RecordReader, Source, SourceFault, entry};
+use rs_mrt::{Entry, Lenient, Record, RecordReader, Source, SourceFault, entry};
 use rs_query::CheckQuery;
 use rs_session::PeerId;
 use rs_update::{Errors, Message, MessageFault, read_message_by};
@@ -34,25 +32,22 @@ pub(crate) fn treated_at<R: AllocGlobal + Files>(
     query: &CheckQuery,
 ) -> Result<u64, Unready> {
     let alloc = rt.alloc();
-    let counted = match open_file(rt, path) {
-        Ok(file) => count_treated(alloc, BoundedReader::new(alloc, file, query.bounds), peer)?,
+    let records = match open_file(rt, path) {
+        Ok(file) => RecordReader::up_to(file, query.bounds.until),
         Err(fault) => return Err(Unready::by_file(alloc, fault, path)),
     };
-    match counted {
+    match count_treated(alloc, Lenient::new(records, query.bounds.tail), peer)? {
         Some(count) => Ok(count),
         None => Err(Unready::by_path(alloc, path)),
     }
 }
 
-// How many UPDATEs of a peer are treated as withdrawn, of those that a reader gives; none if a read fails.
-fn count_treated<R: Read + Drop>(
+// How many UPDATEs of a peer are treated as withdrawn, of those that a source gives; none if a read fails.
+fn count_treated<S: Source + Drop>(
     alloc: Global,
-    reader: R,
+    mut records: S,
     peer: PeerId,
-) -> Result<Option<u64>, AllocError>
-    requires { R.failures reader < u64.MAX }
-{
-    let mut records = RecordReader::new(reader);
+) -> Result<Option<u64>, AllocError> {
     let mut count: u64 = 0;
     for _ in 0..u64::MAX {
         match told_next(alloc, &mut records, peer)? {

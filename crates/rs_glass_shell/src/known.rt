@@ -4,11 +4,11 @@
 //! Our choices: of a session it is only told that it is down if a recorded change of state or the last record of the peer
 //! shows that. If losses are inferred, the file of a peer is read once more for its session.
 
-use rs_host::{found_at, open_file};
+use rs_host::open_file;
 use rs_inventory::{Inventory, Peer, PeerRecords, read_outline};
-use rs_losses::{LossReader, Sought};
-use rs_mrt::{BoundedReader, Bounds, Losses};
-use rs_notes::{Contents, Outlines, Subject, Telling, contents_of, notes_of};
+use rs_losses::{Sought, WithLosses};
+use rs_mrt::{Bounds, Lenient, Losses, RecordReader};
+use rs_notes::{Contents, Outlines, Subject, Telling, contents_of, is_file, notes_of};
 use rs_opening::sought;
 use rs_setup::Setup;
 use std::alloc::AllocError;
@@ -179,21 +179,13 @@ fn inferred_at<R: AllocGlobal + Files>(
     bounds: Bounds,
     who: Sought,
 ) -> Option<Inventory> {
-    if !is_file(rt, path) {
+    if !is_file(rt, path).ok()? {
         return None;
     }
-    let file = open_file(rt, path).ok()?;
-    let within = BoundedReader::new(rt.alloc(), file, bounds);
-    let reader = LossReader::new(rt.alloc(), within, Losses::Inferred, who);
-    read_outline(rt.alloc(), reader, None).ok()
-}
-
-// Whether the path names a file that gives its octets each time it is read.
-fn is_file<R: Files>(rt: &R, path: &str) -> bool {
-    match found_at(rt, path) {
-        Ok(Some(found)) => found.is_file(),
-        _ => false,
-    }
+    let records = RecordReader::up_to(open_file(rt, path).ok()?, bounds.until);
+    let whole = Lenient::new(records, bounds.tail);
+    let source = WithLosses::new(whole, Losses::Inferred, who);
+    read_outline(rt.alloc(), source).ok()
 }
 
 // What a file holds of a peer.

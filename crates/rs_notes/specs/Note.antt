@@ -4,7 +4,7 @@ use Rattle.std.specs.Fmt.{decimal}
 use Rattle.std.specs.Int.{to_be_bytes, w32}
 use Rattle.std.specs.Net.Text.{ipv4_text}
 use Rattle.rs_notes.specs.Format.{format_name}
-use Rattle.rs_notes.specs.declared.cut.Cut.{Cut}
+use Rattle.rs_mrt.specs.declared.cut.Cut.{Cut}
 use Rattle.rs_notes.specs.declared.hint.Hint.{Hint}
 use Rattle.rs_notes.specs.declared.hint.Hint.TheVariants.{NotMrt, NoRecord}
 use Rattle.rs_inventory.specs.declared.kind.Kind.{Kind}

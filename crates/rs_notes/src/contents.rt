@@ -1,18 +1,22 @@
 //! What recorded files hold, and where they end, as notes tell of it.
 //!
 //! Our choices: if nobody made an outline of a file, the file is read once more, however many peers name it, and of each
-//! message only the type. A pipe gets no note, nor does a file that cannot be read. If all notes are wanted, one that
-//! cannot be read, though it is no pipe, counts as a note.
+//! message only the type. Of a compressed file only its first octets are read. A pipe gets no note, nor does a file that
+//! cannot be read. If all notes are wanted, one that cannot be read, though it is no pipe, counts as a note.
 
-use crate::cut::{Cut, cut_of};
 use crate::format::{FRONT_LEN, Format};
 use crate::hint::is_known;
-use crate::unread::UnreadMessages;
-use rs_host::{found_at, open_file};
-use rs_inventory::{Inventory, Peer, read_outline};
-use rs_mrt::{BoundedReader, Bounds};
-use std::fs::{File, Files};
-use std::io::Read;
+use crate::peers::peer_of_server;
+use byteorder::{BigEndian, ByteOrder};
+use rs_host::{FileFault, found_at, open, open_file};
+use rs_inventory::{
+    Compression, Inventory, InventoryFault, Outline, Peer, UnreadMessages, outline_of,
+};
+use rs_mrt::{Bounds, Cut, HEADER_LEN, RecordReader, Tail};
+use rs_setup::Setup;
+use std::alloc::{AllocError, Global};
+use std::fs::Files;
+use std::io::{ErrorKind, Read};
 
 /// What the recorded file at a path holds, and its first octets.
 #[derive(Drop)]
@@ -23,51 +27,34 @@ pub struct Contents<'a> {
     pub front: Vec<u8>,
     /// What its records hold.
     pub held: Inventory,
-    // Whether a message names the server as its recorder, if that is known.
-    pub(crate) names_server: Option<bool>,
-    // Which messages aren't read, if that is known.
-    pub(crate) unread: Option<UnreadMessages>,
-    // Where it ends within a record, if it is known whether it does.
-    pub(crate) end: FileEnd,
-}
-
-// Where a recorded file ends.
-#[derive(Clone, Copy, Debug, PartialEq, Eq)]
-pub(crate) enum FileEnd {
-    // That isn't known.
-    Unknown,
-    // Behind a whole record.
-    Whole,
-    // Within a record.
-    Within(Cut),
+    // Whether a message names the server as its recorder.
+    pub(crate) names_server: bool,
+    // Which messages aren't read.
+    pub(crate) unread: UnreadMessages,
+    // Where it ends within a record, if it does.
+    pub(crate) cut: Option<Cut>,
 }
 
 impl<'a> Contents<'a> {
-    /// What the recorded file at a path holds, with its first octets, if no more is known of it.
-    pub fn new(path: &'a str, front: Vec<u8>, held: Inventory) -> Contents<'a> {
+    // What a file holds of which these are the first octets and the outline, if its tail is read so.
+    fn new(path: &'a str, front: Vec<u8>, outline: Outline, tail: Tail) -> Contents<'a> {
+        let mut held = outline.held;
+        if tail == Tail::Lenient {
+            held.take_end(None);
+        }
         Contents {
             path,
             front,
             held,
-            names_server: None,
-            unread: None,
-            end: FileEnd::Unknown,
+            names_server: outline.names_server,
+            unread: outline.unread,
+            cut: outline.cut,
         }
     }
 
     /// Whether the file has no octet.
     pub(crate) fn is_empty(&self) -> bool {
         self.front.is_empty() && self.held.records() == 0 && self.held.end().is_none()
-    }
-
-    /// Where the file ends within a record, if it is read up to a time. It is read once more if that isn't known. None if
-    /// memory or a read is refused.
-    pub(crate) fn cut<R: AllocGlobal + Files>(&self, rt: &R, until: Option<u32>) -> Option<Cut> {
-        match self.end {
-            FileEnd::Unknown => cut_at(rt, self.path, until),
-            FileEnd::Whole => None,
-            FileEnd::Within(cut) => Some(cut),
-        }
     }
 }
 
@@ -76,63 +63,74 @@ pub fn contents_of<'b, 'a>(all: &'b [Contents<'a>], path: &str) -> Option<&'b Co
     all.iter().find(|contents| contents.path == path)
 }
 
-/// Adds what the file at a path holds, if it can be read again and memory isn't refused. `may_be_file` tells which file
-/// that leaves out is unknown.
-pub(crate) fn add_contents<'a, R: AllocGlobal + Files>(
+/// Reads what the file at a path of a setup holds within bounds. It fails with `Unread` if the file may give its octets
+/// only once, or can't be read, and with `Memory` if memory is refused.
+pub fn read_contents<'a, R: AllocGlobal + Files>(
     rt: &R,
-    all: &mut Vec<Contents<'a>>,
+    setup: &Setup,
     path: &'a str,
     bounds: Bounds,
-) {
-    let Some(front) = front_at(rt, path) else {
-        return;
-    };
-    let Some(held) = outline_at(rt, path, bounds, None) else {
-        return;
-    };
-    let _ = all.push(Contents::new(path, front, held));
+) -> Result<Contents<'a>, FileFault> {
+    contents_at(rt, path, bounds, peer_of_server(setup), None)
 }
 
-// Where the file at a path ends within a record, if it gives its octets each time it is read.
-fn cut_at<R: AllocGlobal + Files>(rt: &R, path: &str, until: Option<u32>) -> Option<Cut> {
-    if !is_file(rt, path) {
-        return None;
+/// What the file at a path holds within bounds, by its outline: the file is read for that if the outline isn't known. It
+/// fails as `read_contents` does.
+pub(crate) fn contents_at<'a, R: AllocGlobal + Files>(
+    rt: &R,
+    path: &'a str,
+    bounds: Bounds,
+    server: Peer,
+    known: Option<Outline>,
+) -> Result<Contents<'a>, FileFault> {
+    let front = front_at(rt, path)?;
+    let outline = match (compression_within(&front, bounds.until), known) {
+        (Some(compression), _) => outline_of_compressed(rt.alloc(), compression),
+        (None, Some(outline)) => outline,
+        (None, None) => outline_at(rt, path, bounds.until, server)?,
+    };
+    Ok(Contents::new(path, front, outline, bounds.tail))
+}
+
+// How a file is compressed that begins with these octets and is read up to a time. One whose first record would be later
+// isn't looked at: none of it is read.
+fn compression_within(front: &[u8], until: Option<u32>) -> Option<Compression> {
+    match until {
+        Some(until) if front.len() >= HEADER_LEN && BigEndian::read_u32(front) > until => None,
+        _ => Compression::of(front),
     }
-    let whole = open_file(rt, path).ok()?;
-    let all = open_file(rt, path).ok()?;
-    cut_of(rt.alloc(), until, whole, all)
 }
 
-/// The outline of the file at a path, if it gives its octets each time it is read. If a recorder is given, no other
-/// one counts.
-pub(crate) fn outline_at<R: AllocGlobal + Files>(
+// The outline of a file that is compressed so: it has no record.
+fn outline_of_compressed(alloc: Global, compression: Compression) -> Outline {
+    Outline {
+        held: Inventory::none(alloc, Some(compression)),
+        names_server: false,
+        unread: UnreadMessages::none(alloc),
+        cut: None,
+    }
+}
+
+// The outline of the file at a path, which is read up to a time.
+fn outline_at<R: AllocGlobal + Files>(
     rt: &R,
     path: &str,
-    bounds: Bounds,
-    recorder: Option<Peer>,
-) -> Option<Inventory> {
-    if !is_file(rt, path) {
-        return None;
+    until: Option<u32>,
+    server: Peer,
+) -> Result<Outline, FileFault> {
+    let records = RecordReader::up_to(open_file(rt, path)?, until);
+    match outline_of(rt.alloc(), records, server) {
+        Ok(outline) => Ok(outline),
+        Err(InventoryFault::Memory) => Err(FileFault::Memory),
+        Err(InventoryFault::Read) => Err(FileFault::Unread),
     }
-    let file = open_file(rt, path).ok()?;
-    let reader = BoundedReader::new(rt.alloc(), file, bounds);
-    read_outline(rt.alloc(), reader, recorder).ok()
 }
 
 /// Whether the path names a file that gives its octets each time it is read.
-pub(crate) fn is_file<R: Files>(rt: &R, path: &str) -> bool {
-    match found_at(rt, path) {
-        Ok(Some(found)) => found.is_file(),
-        _ => false,
-    }
-}
-
-/// Whether the path may name such a file: it does, or memory to see that is refused.
-pub(crate) fn may_be_file<R: Files>(rt: &R, path: &str) -> bool {
-    match found_at(rt, path) {
-        Ok(Some(found)) => found.is_file(),
-        Ok(None) => false,
-        Err(_) => true,
+pub fn is_file<R: Files>(rt: &R, path: &str) -> Result<bool, AllocError> {
+    match found_at(rt, path)? {
+        Some(found) => Ok(found.is_file()),
+        None => Ok(false),
     }
 }
 
@@ -142,17 +140,22 @@ pub fn format_at<R: AllocGlobal + Files>(rt: &R, path: &str, held: &Inventory) -
     if is_known(held) {
         return None;
     }
-    Format::of(&front_at(rt, path)?)
+    Format::of(&front_at(rt, path).ok()?)
 }
 
-/// The first octets of the file at a path, at most `FRONT_LEN`: none if it may give its octets only once, or can't be
-/// read.
-pub fn front_at<R: AllocGlobal + Files>(rt: &R, path: &str) -> Option<Vec<u8>> {
-    if !is_file(rt, path) {
-        return None;
+// The first octets of the file at a path, at most `FRONT_LEN`. It fails with `Unread` if the file may give its octets
+// only once, or can't be read, and with `Memory` if memory is refused.
+fn front_at<R: AllocGlobal + Files>(rt: &R, path: &str) -> Result<Vec<u8>, FileFault> {
+    match is_file(rt, path) {
+        Ok(true) => {}
+        Ok(false) => return Err(FileFault::Unread),
+        Err(_) => return Err(FileFault::Memory),
     }
+    let file = open(rt, path)?;
     let mut front = Vec::new(rt.alloc());
-    let file = File::open(rt, path).ok()?;
-    file.take(FRONT_LEN as u64).read_to_end(&mut front).ok()?;
-    Some(front)
+    match file.take(FRONT_LEN as u64).read_to_end(&mut front) {
+        Ok(_) => Ok(front),
+        Err(error) if error.kind() == ErrorKind::OutOfMemory => Err(FileFault::Memory),
+        Err(_) => Err(FileFault::Unread),
+    }
 }

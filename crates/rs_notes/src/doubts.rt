@@ -17,8 +17,8 @@ use crate::note::{
 use crate::notes::Notes;
 use crate::peers::peer_of;
 use crate::subject::{Close, Ending, Subject};
-use crate::unread::Unread;
 use rs_choice::PeerSpec;
+use rs_inventory::Unread;
 use std::alloc::{AllocError, Global};
 
 /// The notes on what is suspicious.

@@ -1,36 +1,35 @@
 //! The notes on an exchange as a whole: files in which times go back, a subnet in which nobody is, and a server that no
 //! record names.
 //!
-//! Our choices: a server gets its note only if messages are recorded and each file could be read again. If it isn't known
-//! whether a file names the server, the note counts, but has no text.
+//! Our choice: a server gets its note only if messages are recorded and each file could be read again.
 
-use crate::contents::{Contents, contents_of, outline_at};
+use crate::contents::{Contents, contents_of};
 use crate::note::{back_line, back_lines, server_line, subnet_line};
 use crate::notes::Notes;
 use crate::peers::peer_of_server;
-use crate::subject::Subject;
 use rs_inventory::Peer;
-use rs_mrt::Bounds;
 use rs_setup::Setup;
 use rs_types::Prefix;
-use std::alloc::{AllocError, Global};
-use std::fs::Files;
+use std::alloc::Global;
 
 /// Adds the notes.
-pub(crate) fn add_exchange<R: AllocGlobal + Files>(
-    rt: &R,
-    subject: Subject<'_>,
+pub(crate) fn add_exchange(
+    alloc: Global,
+    setup: &Setup,
     all: &[Contents<'_>],
     notes: &mut Notes,
 ) {
-    add_back(rt.alloc(), all, notes);
-    if let Some(subnet) = subject.setup.plan.local().subnet {
-        if is_deserted(subject.setup, subnet) {
-            notes.add(subnet_line(rt.alloc(), subnet));
+    add_back(alloc, all, notes);
+    if let Some(subnet) = setup.plan.local().subnet {
+        if is_deserted(setup, subnet) {
+            notes.add(subnet_line(alloc, subnet));
         }
     }
-    if let Some(text) = server_note(rt, subject, all) {
-        notes.add(text);
+    let server = peer_of_server(setup);
+    if let Some((path, recorder)) = first_recorder(all) {
+        if is_unnamed(setup, all) {
+            notes.add(server_line(alloc, server, path, recorder));
+        }
     }
 }
 
@@ -75,36 +74,13 @@ fn is_inside(subnet: Prefix, address: u32) -> bool {
     }
 }
 
-// The text of the note on the server, if messages are recorded, but none of a session with it. If a file could not be
-// read again, nothing is known of its messages. It has no text if memory for that is refused, or a read that it needs.
-fn server_note<R: AllocGlobal + Files>(
-    rt: &R,
-    subject: Subject<'_>,
-    all: &[Contents<'_>],
-) -> Option<Result<String, AllocError>> {
-    let setup = subject.setup;
-    let server = peer_of_server(setup);
-    let (path, recorder) = first_recorder(all)?;
-    if recorder == server
-        || !setup
-            .files
-            .iter()
-            .all(|path| contents_of(all, path).is_some())
-    {
-        return None;
-    }
-    let mut known = true;
-    for contents in all {
-        match names(rt, contents, subject.bounds, server) {
-            Some(true) => return None,
-            Some(false) => {}
-            None => known = false,
-        }
-    }
-    if !known {
-        return Some(Err(AllocError));
-    }
-    Some(server_line(rt.alloc(), server, path, recorder))
+// Whether no message of the files names the server as its recorder. If a file could not be read again, nothing is known
+// of its messages.
+fn is_unnamed(setup: &Setup, all: &[Contents<'_>]) -> bool {
+    setup.files.iter().all(|path| match contents_of(all, path) {
+        Some(contents) => !contents.names_server,
+        None => false,
+    })
 }
 
 // The first file in which a recorder is named, and the first one there.
@@ -115,18 +91,4 @@ fn first_recorder<'a>(all: &[Contents<'a>]) -> Option<(&'a str, Peer)> {
         }
     }
     None
-}
-
-// Whether a message of a file names the server as its recorder; none if memory or a read is refused.
-fn names<R: AllocGlobal + Files>(
-    rt: &R,
-    contents: &Contents<'_>,
-    bounds: Bounds,
-    server: Peer,
-) -> Option<bool> {
-    if contents.names_server.is_some() {
-        return contents.names_server;
-    }
-    let held = outline_at(rt, contents.path, bounds, Some(server))?;
-    Some(held.recorder().is_some())
 }

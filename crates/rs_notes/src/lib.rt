@@ -2,18 +2,17 @@
 //! choice.
 //!
 //! Reading order, what may be wrong with a file first: `format` (its format), `hint` (the note on a file without a
-//! record of its peer), `near` (which peer is meant then), `cut` (where a file ends within a record). `lost` finds a loss
-//! with the address of no peer. Then what notes are about: `subject`, `peers`, `contents` (what files hold), `look`
-//! (what a file shows of which nothing was kept). Then the notes: `note` (their texts), `group` (one line on several
+//! record of its peer), `near` (which peer is meant then). `lost` finds a loss with the address of no peer. Then what
+//! notes are about: `subject`, `peers`, `contents` (what files hold), `outlines` (what tells that while they are read),
+//! `look` (what a file shows of which nothing was kept). Then the notes: `note` (their texts), `group` (one line on several
 //! peers), `mistakes`, `doubts`, `all_filtered` (which peers left only routes that are filtered), `import_notes`,
-//! `exchange`, `notes`. What files hold, made while they are read: `outline`, `noting`, `outlines`.
+//! `exchange`, `notes`.
 //!
 //! A call that allocates fails if memory is refused.
 #![tactic(auto)]
 
 mod all_filtered;
 mod contents;
-mod cut;
 mod doubts;
 mod exchange;
 mod format;
@@ -26,21 +25,15 @@ mod mistakes;
 mod near;
 mod note;
 mod notes;
-mod noting;
-mod outline;
 mod outlines;
 mod peers;
 mod subject;
-mod unread;
-mod unread_again;
 
-pub use contents::{Contents, contents_of, format_at, front_at};
-pub use cut::Cut;
+pub use contents::{Contents, contents_of, format_at, is_file, read_contents};
 pub use format::Format;
 pub use hint::{Hint, hint_on};
 pub use import_notes::{BEFORE_IMPORT, add_filtered};
 pub use note::{cut_line, note_line};
 pub use notes::{Notes, notes_of, notes_on, print_texts};
-pub use noting::Noting;
 pub use outlines::Outlines;
 pub use subject::{Close, Ending, Subject, Telling};

@@ -3,7 +3,7 @@
 //! Our choices: a file isn't wrong if its records are only later than what is read. It is read once more to see that. If
 //! memory or that reading is refused, what it shows is unknown.
 
-use crate::contents::{Contents, outline_at};
+use crate::contents::{Contents, read_contents};
 use crate::hint::{Hint, hint_on};
 use crate::near::{Near, near_of};
 use crate::peers::peer_of;
@@ -40,22 +40,23 @@ pub(crate) fn look_at<R: AllocGlobal + Files>(
         return Look::Empty;
     }
     if subject.bounds.until.is_none() {
-        return look_into(subject, contents, &contents.held, peer);
+        return look_into(subject, contents, peer);
     }
     if has_records(&contents.held, peer) {
         return Look::Plain;
     }
-    let Some(held) = outline_at(rt, contents.path, Bounds::none(), None) else {
+    let Ok(whole) = read_contents(rt, subject.setup, contents.path, Bounds::none()) else {
         return Look::Unknown;
     };
-    match first_of(&held, peer) {
+    match first_of(&whole.held, peer) {
         Some(first) => Look::Later(first),
-        None => look_into(subject, contents, &held, peer),
+        None => look_into(subject, &whole, peer),
     }
 }
 
 // What a file shows that holds this.
-fn look_into(subject: Subject<'_>, contents: &Contents<'_>, held: &Inventory, peer: Peer) -> Look {
+fn look_into(subject: Subject<'_>, contents: &Contents<'_>, peer: Peer) -> Look {
+    let held = &contents.held;
     match hint_on(held, &contents.front, peer) {
         Some(hint) => Look::Wrong(hint, near_of(subject.setup, held, peer)),
         None => Look::Plain,

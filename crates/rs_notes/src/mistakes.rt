@@ -1,12 +1,9 @@
 //! The notes on likely mistakes: a file of which nothing was kept, because it is of another format or has no record of
 //! its peer; and a file that ends within a record.
 //!
-//! Our choices: a file that ends within a record counts once, however many peers name it. If memory or a read is refused
-//! for where it ends, there is no note. That hides no reason for a status: its session closed early, which is one by
-//! itself, or its tail is left out as asked.
+//! Our choice: a file that ends within a record counts once, however many peers name it.
 
 use crate::contents::Contents;
-use crate::cut::Cut;
 use crate::group::{Detail, Group, Told};
 use crate::hint::Hint;
 use crate::near::Near;
@@ -16,9 +13,8 @@ use crate::peers::peer_of;
 use crate::subject::{Close, Ending, Subject, Telling};
 use rs_choice::PeerSpec;
 use rs_inventory::Peer;
-use rs_mrt::Tail;
+use rs_mrt::{Cut, Tail};
 use std::alloc::{AllocError, Global};
-use std::fs::Files;
 
 /// The notes on likely mistakes.
 #[derive(Drop)]
@@ -59,18 +55,17 @@ impl<'a> Mistakes<'a> {
     }
 
     /// Takes where a file ends within a record, if it does, and wasn't taken before. The session of a peer ended so.
-    pub(crate) fn take_cut<R: AllocGlobal + Files>(
+    pub(crate) fn take_cut(
         &mut self,
-        rt: &R,
         subject: Subject<'_>,
         contents: &Contents<'a>,
         ending: Ending,
     ) {
-        let bounds = subject.bounds;
-        if !may_be_cut(bounds.tail, ending.close) || self.cut.contains(&contents.path) {
+        let tail = subject.bounds.tail;
+        if !may_be_cut(tail, ending.close) || self.cut.contains(&contents.path) {
             return;
         }
-        let Some(cut) = contents.cut(rt, bounds.until) else {
+        let Some(cut) = contents.cut else {
             return;
         };
         if self.first.is_none() {

@@ -6,14 +6,12 @@ ghost use Rattle.std.specs.Net.Addr.{ipv4_octets};
 ghost use Rattle.rs_notes.specs.Note.{count_text, cut_note, format_text, kind_text};
 ghost use Rattle.rs_notes.specs.Note.{loss_text, note_of, others_text, text_of, whose_text};
 
-use crate::cut::Cut;
 use crate::hint::Hint;
 use crate::lost::Lost;
 use crate::near::Near;
-use crate::unread::Unread;
 use rs_host::{Utc, on_one_line};
-use rs_inventory::{Back, Kind, Peer};
-use rs_mrt::Tail;
+use rs_inventory::{Back, Kind, Peer, Unread};
+use rs_mrt::{Cut, Tail};
 use rs_types::Prefix;
 use std::alloc::{AllocError, Global};
 use std::net::Ipv4Addr;

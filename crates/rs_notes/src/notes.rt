@@ -5,7 +5,7 @@
 //! Our choices: a note that can't be made or written is left out, but it counts. If all notes are wanted, what isn't known
 //! of a file counts as a note, too: memory or a read was refused. So a run that may have a note isn't taken for clean.
 
-use crate::contents::{Contents, add_contents, contents_of, may_be_file};
+use crate::contents::{Contents, contents_of, is_file, read_contents};
 use crate::doubts::Doubts;
 use crate::exchange::add_exchange;
 use crate::group::Group;
@@ -14,7 +14,6 @@ use crate::look::{Look, look_at};
 use crate::mistakes::{Mistakes, may_be_cut};
 use crate::peers::peer_of;
 use crate::subject::{Close, Ending, Subject, Telling};
-use crate::unread_again::UnreadAgain;
 use rs_choice::PeerSpec;
 use rs_inventory::Inventory;
 use rs_mrt::{Bounds, Tail};
@@ -107,7 +106,9 @@ pub fn notes_on<R: AllocGlobal + Files>(
     let mut all = Vec::new(rt.alloc());
     for (path, ending) in setup.files.iter().zip(endings) {
         if may_be_mistaken(bounds.tail, *ending) && contents_of(&all, path).is_none() {
-            add_contents(rt, &mut all, path, bounds);
+            if let Ok(contents) = read_contents(rt, setup, path, bounds) {
+                let _ = all.push(contents);
+            }
         }
     }
     let subject = Subject {
@@ -141,7 +142,7 @@ pub fn notes_of<R: AllocGlobal + Files>(
             if let Some(ending) = ending_of(subject.endings, peer, &contents.held) {
                 told.take(rt, subject, setup.plan.peer(peer), contents, ending);
             }
-        } else if subject.telling == Telling::All && may_be_file(rt, path) {
+        } else if subject.telling == Telling::All && is_file(rt, path).unwrap_or(true) {
             told.is_unknown = true;
         }
     }
@@ -151,7 +152,7 @@ pub fn notes_of<R: AllocGlobal + Files>(
     if subject.telling == Telling::All {
         told.doubts.add_to(alloc, subject, &mut notes);
         add_empty_lists(alloc, setup, &mut notes);
-        add_exchange(rt, subject, all, &mut notes);
+        add_exchange(alloc, setup, all, &mut notes);
     }
     notes
 }
@@ -161,7 +162,6 @@ pub fn notes_of<R: AllocGlobal + Files>(
 struct ByPeer<'a> {
     mistakes: Mistakes<'a>,
     doubts: Doubts<'a>,
-    again: UnreadAgain<'a>,
     // Whether it isn't known of some peer which notes are due.
     is_unknown: bool,
 }
@@ -172,7 +172,6 @@ impl<'a> ByPeer<'a> {
         ByPeer {
             mistakes: Mistakes::none(alloc),
             doubts: Doubts::none(alloc),
-            again: UnreadAgain::none(alloc),
             is_unknown: false,
         }
     }
@@ -194,14 +193,12 @@ impl<'a> ByPeer<'a> {
                 return;
             }
         }
-        self.mistakes.take_cut(rt, subject, contents, ending);
+        self.mistakes.take_cut(subject, contents, ending);
         if subject.telling == Telling::Mistakes {
             return;
         }
-        match self.again.of(rt, subject, contents, peer_of(spec)) {
-            Some(unread) => self.doubts.take_unread(alloc, subject, spec, unread),
-            None => self.is_unknown = true,
-        }
+        let unread = contents.unread.of(peer_of(spec));
+        self.doubts.take_unread(alloc, subject, spec, unread);
         self.doubts
             .take_sessions(alloc, subject, spec, contents, ending);
     }

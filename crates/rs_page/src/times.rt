@@ -3,8 +3,6 @@
 //! Our choices: each file is read once more for that, behind the run that builds the tables. So of a file that gives its
 //! octets only once nothing is shown.
 
-ghost use Rattle.std.specs.Prelude.{◌<◌};
-
 use crate::changes::Changes;
 use crate::spans::{Ends, Span, spans_of};
 use rs_choice::PeerSpec;
@@ -12,8 +10,8 @@ use rs_glass::{Loss, loss_of};
 use rs_glass_shell::Unanswered;
 use rs_host::{Unready, open_file};
 use rs_inventory::{Peer, PeerRecords};
-use rs_losses::{LossReader, Sought};
-use rs_mrt::{BoundedReader, Bounds, Losses, Read, RecordReader};
+use rs_losses::{Sought, WithLosses};
+use rs_mrt::{Bounds, Lenient, Losses, RecordReader, Source};
 use rs_notes::{Contents, contents_of};
 use rs_opening::sought;
 use rs_query::TablesQuery;
@@ -162,10 +160,12 @@ fn heard<R: AllocGlobal + Files>(
         address: manner.who.address,
         asn: manner.who.asn,
     };
-    let within = BoundedReader::new(alloc, file, manner.bounds);
-    let reader = LossReader::new(alloc, within, manner.losses, manner.who);
+    let reader = RecordReader::up_to(file, manner.bounds.until);
+    let whole = Lenient::new(reader, manner.bounds.tail);
+    let source = WithLosses::new(whole, manner.losses, manner.who);
+    let session = Session::over_by(alloc, source, id, manner.errors);
     let mut one = silent(alloc);
-    let ends = hear(alloc, reader, (id, manner.errors), &mut one, changes)?;
+    let ends = hear(alloc, session, &mut one, changes)?;
     if let Some((_, Reason::Read)) = ends.close {
         return Err(Unanswered::from(Unready::by_path(alloc, path)));
     }
@@ -174,17 +174,12 @@ fn heard<R: AllocGlobal + Files>(
 }
 
 // Counts the changes that a recorded session gives. Answers how its sessions ended.
-fn hear<R: Read + Drop>(
+fn hear<S: Source + Drop>(
     alloc: Global,
-    reader: R,
-    asked: (PeerId, Errors),
+    mut session: Session<S>,
     one: &mut PeerTimes,
     changes: &mut Changes,
-) -> Result<Ends, AllocError>
-    requires { R.failures reader < u64.MAX }
-{
-    let (id, errors) = asked;
-    let mut session = Session::over_by(alloc, RecordReader::new(reader), id, errors);
+) -> Result<Ends, AllocError> {
     let mut ends = Ends {
         losses: Vec::new(alloc),
         since: None,
@@ -201,7 +196,7 @@ fn hear<R: Read + Drop>(
 }
 
 // How the session was lost, if that is the change that it gave last.
-fn loss_behind<R: Read>(session: &Session<RecordReader<R>>, word: &Word) -> Option<Loss> {
+fn loss_behind<S: Source>(session: &Session<S>, word: &Word) -> Option<Loss> {
     match word.body {
         Body::Down => loss_of(&session.shown()?),
         _ => None,

@@ -235,7 +235,7 @@ where
         bounds: outlines.bounds(),
         losses,
     };
-    let files = open_files(rt, setup, reading, |file| outlines.noting(file))?;
+    let files = open_files(rt, setup, reading, |file| file, outlines.slots())?;
     match read_sessions(rt, alloc, &setup.plan, files, question) {
         Ok(reading) => Ok(reading),
         Err(fault) => Err(by_reading(alloc, fault, setup)),
@@ -261,7 +261,7 @@ where
         bounds: outlines.bounds(),
         losses: query.span.losses,
     };
-    let files = open_files(rt, setup, reading, |file| outlines.noting(file))?;
+    let files = open_files(rt, setup, reading, |file| file, outlines.slots())?;
     match read_happenings(rt, alloc, &setup.plan, files, &question) {
         Ok(happenings) => {
             let from = if query.svg.is_some() {
