@@ -15,13 +15,13 @@ use Rattle.rs_losses.specs.Losses.{with_losses}
 use Rattle.rs_losses.specs.WithLosses.{Inferring, ComesFirst, end_within as end_below, within as below}
 use Rattle.rs_losses.specs.WithLosses.{ComesBy as ComesWithLosses, shown_by, unbegun}
 use Rattle.rs_losses.specs.declared.losses.Sought.{Sought}
-use Rattle.rs_mrt.proofs.lenient.KnownLemmas.{known-lenient}
+use Rattle.rs_mrt.proofs.lenient.WithinLemmas.{known_within}
 use Rattle.rs_mrt.specs.Bounds.{end_within, records_until}
 use Rattle.rs_mrt.specs.Entry.{front_of}
-use Rattle.rs_mrt.specs.Leniency.{Leniency, ComesBy as ComesLeniently}
+use Rattle.rs_mrt.specs.Leniency.{Leniency, ComesBy as ComesLeniently, unread_within}
 use Rattle.rs_mrt.specs.MemoryReading.{MemoryReading, Comes as Given}
 use Rattle.rs_mrt.specs.Record.{MrtRecord, octets_of}
-use Rattle.rs_mrt.specs.RecordReading.{RecordReading, MayCome, read_limit, unread_until}
+use Rattle.rs_mrt.specs.RecordReading.{RecordReading, MayCome, read_limit}
 use Rattle.rs_mrt.specs.Source.{source_end}
 use Rattle.rs_mrt.specs.declared.bounds.FileReading.{FileReading}
 use Rattle.rs_mrt.specs.declared.fault.SourceFault.{SourceFault}
@@ -129,8 +129,7 @@ module _ (errors : Errors) (peer : PeerId) where
 -- what may come of a file in memory, within its bounds
 abbrev come-within : FileReading → List ℕ → List MrtRecord → Option SourceFault → Type 0
 come-within reading file =
-    ComesLeniently (MayCome Given)
-    (record { source = unread_until reading.bounds.until (whole_of file); tail = reading.bounds.tail })
+    ComesLeniently (MayCome Given) (unread_within reading.bounds (whole_of file))
 
 abbrev comes : Reading → List MrtRecord → Option SourceFault → Type 0
 comes w = ComesWithLosses w.losses (λ (l : Leniency (RecordReading MemoryReading)). l.source.shown) (ComesLeniently (MayCome Given)) w
@@ -147,7 +146,8 @@ module _ (errors : Errors) (peer : PeerId) (who : Sought) (file : List ℕ) (fit
   within-is : (reading : FileReading) (records : List MrtRecord) (end : Option SourceFault) → come-within reading file records end
       → (records ≡ map front_of (records_until reading.bounds.until file)) × (end ≡ source_end (end_within reading.bounds file))
   within-is reading records end come =
-      known-lenient Given (whole_of file) file (λ some last given. given) fits reading.bounds records end come
+      known_within Given (λ (reader : MemoryReading). reader.failures) reading.bounds (whole_of file) file (λ some last given. given)
+      fits records end come
 
   says : (reading : FileReading) (told : Told) (reason : Reason) → ClosesFor told.changes reason → is_read reason ≡ false
       → (losses : Losses) → reading.losses ≡ losses
@@ -184,8 +184,7 @@ module _ (errors : Errors) (peer : PeerId) (who : Sought) (file : List ℕ) (fit
   pub source-tells : (reading : FileReading) (told : Told) → IsSought who
       → Tells comes shows errors peer (read_so reading who file) told → told ≡ told_in errors reading peer who file
   source-tells reading told sought tells =
-      let source : Leniency (RecordReading MemoryReading) =
-      record { source = unread_until reading.bounds.until (whole_of file); tail = reading.bounds.tail } in
+      let source = unread_within reading.bounds (whole_of file) in
       let may = tells.may in
       let records = may.may_read.later in
       let first = comes-first reading.losses who (λ (l : Leniency (RecordReading MemoryReading)). l.source.shown)

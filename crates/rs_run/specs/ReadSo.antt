@@ -3,9 +3,9 @@ use Rattle.std.specs.Prelude.{◌≡◌, ℕ, List, Some, length, slice_get}
 use Rattle.rs_losses.specs.Laws.{IsSought}
 use Rattle.rs_losses.specs.WithLosses.{Inferring, room_by, unbegun}
 use Rattle.rs_losses.specs.declared.losses.Sought.{Sought}
-use Rattle.rs_mrt.specs.Leniency.{Leniency}
+use Rattle.rs_mrt.specs.Leniency.{Leniency, unread_within}
 use Rattle.rs_mrt.specs.MemoryReading.{MemoryReading}
-use Rattle.rs_mrt.specs.RecordReading.{RecordReading, room_left, unread_until}
+use Rattle.rs_mrt.specs.RecordReading.{RecordReading, room_left}
 use Rattle.rs_mrt.specs.declared.bounds.FileReading.{FileReading}
 use Rattle.rs_serve.specs.AtHand.{whole_of}
 
@@ -16,9 +16,7 @@ Reading = Inferring (Leniency (RecordReading MemoryReading))
 -- a file of which nothing was read: its records up to a time, with its tail or without, and with the losses of a peer
 -- that count
 abbrev pub read_so : FileReading → Sought → List ℕ → Reading
-read_so reading who file =
-    unbegun (record { source = unread_until reading.bounds.until (whole_of file); tail = reading.bounds.tail })
-    reading.losses who
+read_so reading who file = unbegun (unread_within reading.bounds (whole_of file)) reading.losses who
 
 -- how many octets a source still shows at most
 abbrev pub room_of : Reading → ℕ
