@@ -6,6 +6,7 @@
 mod command_lines;
 mod outlet_ahead;
 mod over_octets;
+mod over_records;
 mod rows;
 mod runs;
 mod runs_ahead;
