@@ -1,6 +1,6 @@
 -- A reader whose first octets were taken gives what it might have given before.
 use Rattle.std.proofs.Common.{◌≡◌, ℕ, zero, suc, ◌<◌, ◌||◌, nat_le, Bool, true, false, List, [], ◌∷◌, ◌++◌, length, take, drop, min, Result}
-use Rattle.std.proofs.Common.{Ok, Err, refl, sym, ap, subst, ◌∙◌, arith, append_assoc, take-append-drop, ltb, ltb-false}
+use Rattle.std.proofs.Common.{Ok, Err, refl, sym, ap, subst, ◌∙◌, arith, append_assoc, take-append-drop, ltb, ltb-false, leb-false, append-nil}
 use Rattle.std.specs.Prelude.{OnErr}
 use Rattle.rs_mrt.specs.declared.stream.Failed.{Failed}
 use Rattle.rs_mrt.specs.Reader.{ReadEnd, ReadFails, ReadGives}
@@ -51,8 +51,11 @@ module _ {R : Type 0} (gives : R → List ℕ → ReadEnd → Type 0) where
   pub front-fails : (front : Taken) (inner : R) → is_done front ≡ false → gives inner [] ReadFails
       → ReadMayFail (RewoundGives gives) (rewound front inner)
   front-fails front inner unfinished failed =
-      (front.octets ++ [], record { later = []; splits = refl; given = unless front.ended unfinished })
+      (front.octets, record { later = []; splits = sym (append-nil front.octets); given = unless front.ended unfinished }, few front.ended unfinished)
     where
+      few : (ended : Bool) → (ended || nat_le front_len (length front.octets)) ≡ false → length front.octets < front_len
+      few true done = absurd (cc done)
+      few false done = leb-false front_len (length front.octets) done
       unless : (ended : Bool) → (ended || nat_le front_len (length front.octets)) ≡ false → GivesUnlessEnded gives ended inner [] ReadFails
       unless true done = absurd (cc done)
       unless false done = failed

@@ -71,11 +71,11 @@ news_of_kind octets _ = news.Faulty
 -- the kind of a message, by whether messages are read whole or only their types
 abbrev pub kind_at : Depth → List ℕ → Kind
 kind_at depths.Whole octets = kind_of_message (message_of octets)
-kind_at (depths.Outline recorder) octets = kind_of_type (type_in octets)
+kind_at depths.Outline octets = kind_of_type (type_in octets)
 
 abbrev pub news_at : Depth → List ℕ → News
 news_at depths.Whole octets = news_of_message octets (message_of octets)
-news_at (depths.Outline recorder) octets = news_of_kind octets (kind_of_type (type_in octets))
+news_at depths.Outline octets = news_of_kind octets (kind_of_type (type_in octets))
 
 -- ---- a change of state
 
@@ -108,16 +108,6 @@ recorder_in (Some fields) =
 abbrev pub is_peer : Peer → Peer → Bool
 is_peer one other = (one.address == other.address) && (one.asn == other.asn)
 
--- the recorder, if it is the one that is asked for
-abbrev pub where_asked : Option Peer → Option Peer → Option Peer
-where_asked None found = found
-where_asked (Some asked) None = None
-where_asked (Some asked) (Some found) = if is_peer asked found then Some found else None
-
-abbrev pub recorder_at : Depth → Option Peer → Option Peer
-recorder_at depths.Whole found = found
-recorder_at (depths.Outline asked) found = where_asked asked found
-
 -- the fields of BGP4MP_MESSAGE (RFC 6396, section 4.4.2): Peer AS of two octets at 0, Address Family at 6, Peer IP
 -- Address at 8; for an IPv4 peer the message is at 16
 abbrev pub is_ipv4_message : List ℕ → Bool
@@ -146,7 +136,7 @@ finding_by depth r (Ok (Message asn address octets)) = record {
   time = r.time;
   kind = kind_at depth octets;
   octets = known_octets r.body;
-  recorder = recorder_at depth (recorder_in (fields_of r));
+  recorder = recorder_in (fields_of r);
   note = Some (note_of address asn (news_at depth octets));
 }
 finding_by depth r (Ok (State asn address old new)) = record {

@@ -1,6 +1,6 @@
 -- A reader whose first octets were taken, and which gives these again. Nothing here is from a standard: all of it is
 -- our choice.
-use Rattle.std.specs.Prelude.{◌≡◌, ℕ, suc, ◌-◌, if◌then◌else◌, ◌||◌, nat_le, Bool, true, false, List, [], ◌++◌}
+use Rattle.std.specs.Prelude.{◌≡◌, ◌<◌, ℕ, suc, ◌-◌, if◌then◌else◌, ◌||◌, nat_le, Bool, true, false, List, [], ◌++◌}
 use Rattle.std.specs.Prelude.{length, refl}
 use Rattle.rs_mrt.specs.Reader.{ReadEnd, FileEnds, ReadFails, SomethingIsGiven}
 
@@ -66,9 +66,9 @@ abbrev pub IsFrontOf : {R : Type 0} → (R → List ℕ → ReadEnd → Type 0) 
 IsFrontOf gives old new front =
     (octets : List ℕ) → (end : ReadEnd) → RewoundGives gives (rewound front new) octets end → gives old octets end
 
--- octets may be given, and after them a read fails
+-- octets may be given, fewer than show whether a file is compressed, and after them a read fails
 abbrev pub ReadMayFail : {R : Type 0} → (R → List ℕ → ReadEnd → Type 0) → R → Type 0
-ReadMayFail gives reader = (octets : List ℕ) × gives reader octets ReadFails
+ReadMayFail gives reader = (octets : List ℕ) × gives reader octets ReadFails × (length octets < front_len)
 
 -- one call took more octets
 abbrev pub TakesMore : {R : Type 0} → (R → List ℕ → ReadEnd → Type 0) → (R → ℕ) → Taken → R → Taken → R → Type 0

@@ -9,7 +9,9 @@ pub mod Outline  -- what it says of a peer
 pub mod Times  -- the times and octets of records
 pub mod Back  -- where times go back
 pub mod Inventory  -- what all of them hold
+pub mod FileOutline  -- what an outline tells of them
 pub mod Compression  -- how a compressed file begins
 -- How it is read:
 pub mod Front  -- a reader whose first octets were taken
 pub mod Reading  -- the inventory of a source
+pub mod OutlinedRecords  -- an outline that is made meanwhile

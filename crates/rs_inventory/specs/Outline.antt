@@ -1,6 +1,6 @@
 -- The meaning of one record for a peer, if only the type of its message is read (RFC 4271, section 4.1; RFC 6396,
 -- section 4.4).
-use Rattle.std.specs.Prelude.{Option, None, Result}
+use Rattle.std.specs.Prelude.{Option, Result}
 use Rattle.rs_mrt.specs.Entry.{Meaning, entry_of}
 use Rattle.rs_mrt.specs.Record.{MrtRecord}
 use Rattle.rs_mrt.specs.declared.fault.MrtFault.{MrtFault}
@@ -10,7 +10,7 @@ use Rattle.rs_inventory.specs.declared.finding.Note.{Note}
 
 -- the note on a record, by its meaning
 abbrev pub note_by : MrtRecord → Result Meaning MrtFault → Option Note
-note_by r says = (finding_by (Outline None) r says).note
+note_by r says = (finding_by Outline r says).note
 
 -- the note that an outline has on a record
 abbrev pub outline_note : MrtRecord → Option Note

@@ -1,5 +1,5 @@
 -- The inventory of the records that a source may give.
-use Rattle.std.specs.Prelude.{◌≡◌, ℕ, List, [], ◌∷◌, ◌++◌, map, Option, Some, None}
+use Rattle.std.specs.Prelude.{◌≡◌, ℕ, Bool, true, false, List, [], ◌∷◌, ◌++◌, map, Option, Some, None}
 use Rattle.rs_mrt.specs.Reader.{ReadEnd}
 use Rattle.rs_mrt.specs.Record.{MrtRecord}
 use Rattle.rs_mrt.specs.Source.{source_end}
@@ -12,7 +12,6 @@ use Rattle.rs_inventory.specs.Inventory.{Content, Holds}
 use Rattle.rs_inventory.specs.declared.compression.Compression.{Compression}
 use Rattle.rs_inventory.specs.declared.depth.Depth.{Depth}
 use Rattle.rs_inventory.specs.declared.depth.Depth.TheVariants.{Outline, Whole}
-use Rattle.rs_inventory.specs.declared.peer.Peer.{Peer}
 use Rattle.rs_inventory.specs.declared.finding.Finding.{Finding}
 
 -- a reader may give octets that begin like a file compressed in this way
@@ -33,10 +32,9 @@ pub record IsReadingOf {S : Type 0} (depth : Depth)
 abbrev pub IsInventoryOf : {S : Type 0} → (S → List MrtRecord → Option SourceFault → Type 0) → S → Content → Type 0
 IsInventoryOf comes source content = IsReadingOf Whole comes source content
 
--- the outline of a source: of messages only the types are read, and only one recorder is looked for
-abbrev pub IsOutlineOf : {S : Type 0} → Option Peer → (S → List MrtRecord → Option SourceFault → Type 0) → S → Content
-    → Type 0
-IsOutlineOf recorder comes source content = IsReadingOf (Outline recorder) comes source content
+-- the outline of a source: of messages only the types are read
+abbrev pub IsOutlineOf : {S : Type 0} → (S → List MrtRecord → Option SourceFault → Type 0) → S → Content → Type 0
+IsOutlineOf comes source content = IsReadingOf Outline comes source content
 
 -- records may come, and then a failed read
 abbrev pub MayFail : {S : Type 0} → (S → List MrtRecord → Option SourceFault → Type 0) → S → Type 0
@@ -50,6 +48,15 @@ pub record Going {S : Type 0} (depth : Depth)
   pub behind : (later : List MrtRecord) (fault : Option SourceFault) → comes now later fault
       → comes initial (done ++ later) fault
   pub holds : Holds (map (finding_of depth) done) content
+
+-- The next record may come, if there is one: then it is shown. If there is none, no record may come, and the records
+-- end so.
+abbrev pub GivesRecord : {S : Type 0} → (S → List MrtRecord → Option SourceFault → Type 0) → S → S → Option MrtRecord
+    → Option MrtFault → Bool → Type 0
+GivesRecord comes old new shown end true =
+    (r : MrtRecord) × (shown ≡ Some r)
+    × ((later : List MrtRecord) (fault : Option SourceFault) → comes new later fault → comes old (r ∷ later) fault)
+GivesRecord comes old new shown end false = comes old [] (source_end end)
 
 -- Some finding: the next record may come, and this is what it adds. None: no record may come, and the records end
 -- so.

@@ -1,5 +1,9 @@
 //! What the outline of a recorded file tells: of each message no more than the type is read (RFC 4271, section 4.1).
 
+ghost use Rattle.std.specs.Prelude.{◌≡◌, OnOk};
+ghost use Rattle.rs_mrt.specs.Record.{record_of};
+ghost use Rattle.rs_inventory.specs.FileOutline.{OutlinesNothing, TakesRecord, ended, is_recorder};
+
 use crate::finding::is_peer;
 use crate::inventory::Inventory;
 use crate::peer::Peer;
@@ -22,7 +26,9 @@ pub struct Outline {
 
 impl Outline {
     // That of no record.
-    pub(crate) fn none(alloc: Global) -> Outline {
+    pub(crate) fn none(alloc: Global) -> Outline
+        ensures { OutlinesNothing result }
+    {
         Outline {
             held: Inventory::none(alloc, None),
             names_server: false,
@@ -37,7 +43,9 @@ impl Outline {
         alloc: Global,
         record: &Record<'_>,
         server: Peer,
-    ) -> Result<(), AllocError> {
+    ) -> Result<(), AllocError>
+        ensures { OnOk result (TakesRecord server self.old (record_of «record».now) self.new) }
+    {
         let recorder = self.held.take_outline(alloc, record)?;
         self.names_server = self.names_server || is_recorder(recorder, server);
         self.unread.take(record, server.asn)?;
@@ -45,14 +53,18 @@ impl Outline {
     }
 
     // Takes how the file ends.
-    pub(crate) fn take_end(&mut self, end: Option<MrtFault>, cut: Option<Cut>) {
+    pub(crate) fn take_end(&mut self, end: Option<MrtFault>, cut: Option<Cut>)
+        ensures { self.new ≡ ended end cut self.old }
+    {
         self.held.take_end(end);
         self.cut = cut;
     }
 }
 
 // Whether the recorder of a message, if it has one, is the server.
-fn is_recorder(recorder: Option<Peer>, server: Peer) -> bool {
+fn is_recorder(recorder: Option<Peer>, server: Peer) -> bool
+    ensures { result ≡ is_recorder recorder server }
+{
     match recorder {
         Some(recorder) => is_peer(recorder, server),
         None => false,

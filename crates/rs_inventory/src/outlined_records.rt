@@ -3,11 +3,20 @@
 //! Our choices: the outline is made only if somebody wants it. If memory is refused or a read fails, nothing is known of
 //! the file.
 
+ghost use Rattle.std.specs.Prelude.{◌≡◌, ◌+◌, ◌^◌, ◌<◌, ◌≤◌, IfSome, None};
+ghost use Rattle.rs_mrt.specs.Cut.{cut_of};
+ghost use Rattle.rs_mrt.specs.Record.{octets_of};
+ghost use Rattle.rs_mrt.specs.RecordReading.{MayCome, read_limit, room_left, something_comes};
+ghost use Rattle.rs_mrt.specs.Source.{Advances, CountsFailure, Stays, Stops};
+ghost use Rattle.rs_inventory.specs.FileOutline.{OutlinesNothing};
+ghost use Rattle.rs_inventory.specs.OutlinedRecords.{Gathers, TakesShown, whole_by};
+
 use crate::file_outline::Outline;
 use crate::outline_slot::OutlineSlot;
 use crate::peer::Peer;
-use rs_mrt::{MrtFault, Read, Record, RecordReader, Source, SourceFault};
+use rs_mrt::{Read, Record, RecordReader, Source, SourceFault};
 use std::alloc::Global;
+use std::marker::Model;
 
 /// The records of a file, of which an outline is made while they are shown. It shows just the records of its source.
 #[derive(Drop)]
@@ -20,6 +29,14 @@ pub struct Outlined<'a, R: Read> {
     slot: Option<&'a OutlineSlot>,
 }
 
+impl<'a, R: Read> Model for Outlined<'a, R> {
+    ghost use Rattle.rs_inventory.specs.OutlinedRecords.{Outlining};
+
+    ghost Value = { Outlining R };
+
+    ghost view = { λ o. record { source = o.source; server = o.server; gathered = o.outline } };
+}
+
 impl<'a, R: Read> Outlined<'a, R> {
     /// Begins with the next record of the source. The server is named as records name it. The outline is put into the
     /// slot once the records ended. Without a slot no outline is made, and calls are just passed on.
@@ -28,7 +45,12 @@ impl<'a, R: Read> Outlined<'a, R> {
         source: RecordReader<R>,
         server: Peer,
         slot: Option<&'a OutlineSlot>,
-    ) -> Outlined<'a, R> {
+    ) -> Outlined<'a, R>
+        ensures source { result.source ≡ source }
+        ensures server { result.server ≡ server }
+        ensures begins { IfSome result.gathered OutlinesNothing }
+        ensures unwanted { slot ≡ None → result.gathered ≡ None }
+    {
         let outline = match slot {
             Some(_) => Some(Outline::none(alloc)),
             None => None,
@@ -43,13 +65,19 @@ impl<'a, R: Read> Outlined<'a, R> {
     }
 
     /// The source whose records these are.
-    pub fn source(&self) -> &RecordReader<R> {
+    pub fn source(&self) -> &RecordReader<R>
+        ensures { result.now ≡ self.now.source }
+    {
         &self.source
     }
 
     // Takes the record that is shown. If memory is refused, nothing is known from then on.
-    fn take_shown(&mut self) {
+    fn take_shown(&mut self)
+        ensures takes { TakesShown self.old.server self.old.gathered self.old.source.shown self.new.gathered }
+        ensures same { self.new ≡ record self.old { gathered = self.new.gathered } }
+    {
         let Some(record) = self.source.shown() else {
+            self.outline = None;
             return;
         };
         let taken = match &mut self.outline {
@@ -61,16 +89,27 @@ impl<'a, R: Read> Outlined<'a, R> {
         }
     }
 
-    // Takes how the file ends, and answers the outline of the file, if one was made. Nothing is known from then on.
-    fn take_whole(&mut self, end: Option<MrtFault>) -> Option<Outline> {
+    // Gives what is known of the file, if the source answered so: its outline, if one was made. Nothing is known from
+    // then on.
+    fn take_whole(&mut self, answer: Result<bool, SourceFault>) -> Option<Outline>
+        ensures whole { result ≡ whole_by answer (cut_of self.old.source) self.old.gathered }
+        ensures left { self.new ≡ record self.old { gathered = None } }
+    {
         let mut outline = self.outline.take()?;
+        let end = match answer {
+            Ok(_) => None,
+            Err(SourceFault::Mrt(fault)) => Some(fault),
+            Err(SourceFault::Read) => return None,
+        };
         outline.take_end(end, self.source.cut());
         Some(outline)
     }
 
-    // Puts the outline of the file into the slot.
-    fn put_whole(&mut self, end: Option<MrtFault>) {
-        let Some(outline) = self.take_whole(end) else {
+    // Puts what is known of the file into the slot, if the source answered so.
+    fn put_whole(&mut self, answer: Result<bool, SourceFault>)
+        ensures { self.new ≡ record self.old { gathered = None } }
+    {
+        let Some(outline) = self.take_whole(answer) else {
             return;
         };
         if let Some(slot) = self.slot {
@@ -80,8 +119,6 @@ impl<'a, R: Read> Outlined<'a, R> {
 }
 
 impl<'a, R: Read> Source for Outlined<'a, R> {
-    ghost use Rattle.rs_mrt.specs.RecordReading.{MayCome, read_limit, room_left, something_comes};
-
     ghost shows = { λ o. o.source.shown };
 
     ghost comes = { λ o. MayCome R.gives o.source };
@@ -96,13 +133,24 @@ impl<'a, R: Read> Source for Outlined<'a, R> {
 
     ghost may_come = { λ o. something_comes R.gives o.source (R.may_come o.source.inflow.reader) };
 
-    fn advance(&mut self) -> Result<bool, SourceFault> {
+    // A record that is shown is taken into the outline. The slot gets what `take_whole` gives.
+    fn advance(&mut self) -> Result<bool, SourceFault>
+        ensures records { Advances (MayCome R.gives) self.old.source self.new.source self.new.source.shown result }
+        ensures bound { room_left self.old.source < 2 ^ 64 }
+        ensures room { room_left self.new.source + octets_of self.new.source.shown ≤ room_left self.old.source }
+        ensures failures { CountsFailure (R.failures self.old.source.inflow.reader)
+            (R.failures self.new.source.inflow.reader) (self.new.source.inflow.came ≡ read_limit)
+            self.old.source.stopped result }
+        ensures stays { Stays self.old.source.stopped (R.failures self.old.source.inflow.reader)
+            (R.failures self.new.source.inflow.reader) result }
+        ensures stops { Stops self.new.source.stopped result }
+        ensures gathers { Gathers self.old self.new result }
+        ensures server { self.new.server ≡ self.old.server }
+    {
         let answer = self.source.advance();
         match answer {
             Ok(true) => self.take_shown(),
-            Ok(false) => self.put_whole(None),
-            Err(SourceFault::Mrt(fault)) => self.put_whole(Some(fault)),
-            Err(SourceFault::Read) => self.outline = None,
+            _ => self.put_whole(answer),
         }
         answer
     }

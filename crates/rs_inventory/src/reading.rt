@@ -1,9 +1,12 @@
 //! How a recorded file is read: once, in pieces, and of a compressed one only its first octets.
 
-ghost use Rattle.std.specs.Prelude.{◌≡◌, ◌+◌, ◌<◌, ◌≤◌, IfOk, IfSome, IsErrOf, None};
-ghost use Rattle.rs_mrt.specs.RecordReading.{MayCome, unread};
+ghost use Rattle.std.specs.Prelude.{◌≡◌, ◌+◌, ◌<◌, ◌≤◌, IfOk, IfSome, IsErrOf, IsTrue, None, Some, false};
+ghost use Rattle.rs_mrt.specs.Leniency.{ComesBy, answer_at_end};
+ghost use Rattle.rs_mrt.specs.RecordReading.{MayCome, unread_until};
+ghost use Rattle.rs_mrt.specs.Source.{source_end};
 ghost use Rattle.rs_inventory.specs.Inventory.{HoldsNothing};
-ghost use Rattle.rs_inventory.specs.Reading.{GivesFinding, IsInventoryOf, IsOutlineOf, IsReadingOf};
+ghost use Rattle.rs_inventory.specs.OutlinedRecords.{IsOutlineTo};
+ghost use Rattle.rs_inventory.specs.Reading.{GivesFinding, GivesRecord, IsInventoryOf, IsOutlineOf, IsReadingOf};
 ghost use Rattle.rs_inventory.specs.Reading.{MayBeCompressed, MayFail};
 ghost use Rattle.rs_inventory.specs.declared.reading.InventoryFault.TheVariants.{Memory, Read};
 
@@ -56,6 +59,17 @@ pub fn read_inventory<R: Read + Drop>(
     bounds: Bounds,
 ) -> Result<Inventory, InventoryFault>
     requires { R.failures reader < u64.MAX }
+    // It is compressed as octets are that the reader may give.
+    ensures compressed { IfOk result (λ held. MayBeCompressed R.gives reader held.compression) }
+    // Of a compressed file nothing is counted, no peer is known, and no end.
+    ensures unread { IfOk result (λ held. IfSome held.compression (λ _. HoldsNothing held)) }
+    // Of a file that isn't it is the inventory of records within the bounds that the reader may give, to their end.
+    ensures records { IfOk result (λ held. held.compression ≡ None
+        → IsInventoryOf (ComesBy (MayCome R.gives))
+        (record { source = unread_until bounds.until reader; tail = bounds.tail }) held) }
+    // A read is only said to fail if the reader may fail, or give as many octets as are taken of it.
+    ensures read { IsErrOf result Read
+        → MayFail (ComesBy (MayCome R.gives)) (record { source = unread_until bounds.until reader; tail = bounds.tail }) }
 {
     let front = Front::of(&mut reader)?;
     if let Some(compression) = Compression::of(front.octets()) {
@@ -84,7 +98,11 @@ pub fn outline_of<R: Read + Drop>(
     alloc: Global,
     mut source: RecordReader<R>,
     server: Peer,
-) -> Result<Outline, InventoryFault> {
+) -> Result<Outline, InventoryFault>
+    ensures outline { IfOk result (IsOutlineTo server (MayCome R.gives) source) }
+    ensures uncompressed { IfOk result (λ outline. outline.held.compression ≡ None) }
+    ensures read { IsErrOf result Read → MayFail (MayCome R.gives) source }
+{
     let mut outline = Outline::none(alloc);
     let mut end = None;
     while next_record(&mut source, &mut end)? {
@@ -102,24 +120,51 @@ fn take_records<S: Source + Drop>(
     alloc: Global,
     mut source: S,
     depth: Depth,
-) -> Result<Inventory, InventoryFault> {
+) -> Result<Inventory, InventoryFault>
+    ensures records { IfOk result (IsReadingOf depth S.comes source) }
+    ensures uncompressed { IfOk result (λ held. held.compression ≡ None) }
+    ensures read { IsErrOf result Read → MayFail S.comes source }
+{
     let mut inventory = Inventory::none(alloc, None);
     let mut end = None;
-    while next_record(&mut source, &mut end)? {
-        let Some(record) = source.shown() else {
-            unreachable!();
-        };
-        inventory.take(alloc, Finding::of(alloc, &record, depth)?)?;
+    while let Some(finding) = next_finding(alloc, &mut source, depth, &mut end)? {
+        inventory.take(alloc, finding)?;
     }
     inventory.take_end(end);
     Ok(inventory)
+}
+
+// Goes to the next record and answers what it adds. If there is none, it answers how the records end.
+fn next_finding<S: Source>(
+    alloc: Global,
+    source: &mut S,
+    depth: Depth,
+    end: &mut Option<MrtFault>,
+) -> Result<Option<Finding>, InventoryFault>
+    ensures gives { IfOk result (GivesFinding depth S.comes source.old source.new end.new) }
+    ensures room { IfOk result (λ found. IfSome found (λ _. S.room source.new + 12 ≤ S.room source.old)) }
+    ensures read { IsErrOf result Read → MayFail S.comes source.old }
+{
+    if !next_record(source, end)? {
+        return Ok(None);
+    }
+    let Some(record) = source.shown() else {
+        unreachable!();
+    };
+    Ok(Some(Finding::of(alloc, &record, depth)?))
 }
 
 // Goes to the next record and answers whether there is one. If there is none, it answers how the records end.
 fn next_record<S: Source>(
     source: &mut S,
     end: &mut Option<MrtFault>,
-) -> Result<bool, InventoryFault> {
+) -> Result<bool, InventoryFault>
+    ensures gives { IfOk result (GivesRecord S.comes source.old source.new (S.shows source.new) end.new) }
+    ensures room { IfOk result (λ more. IsTrue more → S.room source.new + 12 ≤ S.room source.old) }
+    ensures stopped { IfOk result (λ more. more ≡ false
+        → S.stopped source.new ≡ Some (answer_at_end (source_end end.new))) }
+    ensures read { IsErrOf result Read → MayFail S.comes source.old }
+{
     match source.advance() {
         Ok(true) => Ok(true),
         Ok(false) => {
