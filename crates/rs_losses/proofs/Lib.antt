@@ -1,7 +1,3 @@
-mod RecordLemmas
-mod OctetLemmas
-mod HeldLemmas
-mod GoesOnLemmas
 mod LawLemmas
 mod CountLemmas
 mod StepLemmas

@@ -7,7 +7,7 @@ use Rattle.rs_mrt.specs.declared.fault.SourceFault.{SourceFault}
 use Rattle.rs_mrt.specs.declared.fault.SourceFault.TheVariants.{Mrt, Read}
 use Rattle.rs_mrt.specs.Record.{MrtRecord, octets_of}
 use Rattle.rs_mrt.specs.Source.{Advances, CountsFailure, SomethingComes, Stays, Stops}
-use Rattle.rs_losses.specs.Inserting.{before_record, behind_record, is_lost_before}
+use Rattle.rs_losses.specs.Losses.{before_record, behind_record, is_lost_before}
 use Rattle.rs_losses.specs.WithLosses.{ComesInferred, GoesOn, Inferring, IsFull, IsThere, answer_within, at_limit, counted, end_within}
 use Rattle.rs_losses.specs.WithLosses.{loss_or, losses_along, met, met_first, octets_first, pending, repeated, shown_of, stopped_of}
 use Rattle.rs_losses.specs.WithLosses.{within}

@@ -2,18 +2,18 @@
 -- Established again was Idle before (RFC 4271, section 8.2.2). Our choice: which records show a loss.
 use Rattle.std.specs.Prelude.{ℕ, Bool, false, not, ◌&&◌, ◌||◌, ◌==◌, if◌then◌else◌, List, [], ◌∷◌, ◌++◌, Option, Some}
 use Rattle.std.specs.Prelude.{None, filter_map}
-use Rattle.std.specs.List.{flat_map}
 use Rattle.std.specs.Option.{option_map}
 use Rattle.byteorder.specs.Endian.{big_bytes}
 use Rattle.rs_mrt.specs.Entry.{family_ipv4, subtype_state_change_as4, type_bgp4mp}
-use Rattle.rs_mrt.specs.Record.{MrtRecord, record_spelling, records_of, rest_of}
-use Rattle.rs_inventory.specs.Course.{Timed, begins, is_loss, is_up}
+use Rattle.rs_mrt.specs.Record.{MrtRecord}
+use Rattle.rs_inventory.specs.Course.{Timed, begins, is_loss, is_up, shows_up}
 use Rattle.rs_inventory.specs.Finding.{is_peer, recorder_in}
 use Rattle.rs_inventory.specs.Kind.{fields_of}
 use Rattle.rs_inventory.specs.Outline.{outline_note}
 use Rattle.rs_inventory.specs.declared.finding.News.{News}
 use Rattle.rs_inventory.specs.declared.finding.Note.{Note}
 use Rattle.rs_inventory.specs.declared.peer.Peer.{Peer}
+use Rattle.rs_losses.specs.declared.following.Followed.{Followed}
 use Rattle.rs_losses.specs.declared.losses.Sought.{Sought}
 
 -- ---- what records mean for the peer
@@ -66,6 +66,33 @@ tells_of_loss who r =
 abbrev pub shows_loss : Sought → List MrtRecord → MrtRecord → Bool
 shows_loss who given r = is_session_up (peer_of who) given && tells_of_loss who r
 
+-- ---- the session that is followed, record by record
+
+-- it is followed from the first record on
+abbrev pub from_the_first : Sought → Followed
+from_the_first who = record { peer = who; up = false }
+
+-- whether it is up after a record with this meaning for the peer
+abbrev pub up_with : Bool → Option News → Bool
+up_with up None = up
+up_with up (Some news) = if is_loss news then false else shows_up news || up
+
+-- the session after a record
+abbrev pub behind_record : Followed → MrtRecord → Followed
+behind_record f r = record f { up = up_with f.up (news_of (peer_of f.peer) (outline_note r)) }
+
+-- the session after its loss
+abbrev pub lost : Followed → Followed
+lost f = record f { up = false }
+
+-- a loss comes before this record
+abbrev pub is_lost_before : Followed → MrtRecord → Bool
+is_lost_before f r = f.up && tells_of_loss f.peer r
+
+-- the session before a record, or behind the loss before it
+abbrev pub before_record : Followed → MrtRecord → Followed
+before_record f r = record f { up = not (is_lost_before f r) && f.up }
+
 -- ---- the records with the losses inserted
 
 -- the state Established, and below, 0, which is not a state (RFC 6396, section 4.4.1)
@@ -98,8 +125,3 @@ with_losses_behind who given (r ∷ later) =
 -- the records of a recording with the losses inserted
 abbrev pub with_losses : Sought → List MrtRecord → List MrtRecord
 with_losses who records = with_losses_behind who [] records
-
--- the octets of a file with the losses inserted: its records with the losses, and then its rest (RFC 6396, section
--- 2)
-abbrev pub file_with_losses : Sought → List ℕ → List ℕ
-file_with_losses who file = flat_map record_spelling (with_losses who (records_of file)) ++ rest_of file

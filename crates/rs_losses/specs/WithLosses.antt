@@ -8,8 +8,8 @@ use Rattle.rs_mrt.specs.declared.fault.SourceFault.TheVariants.{Read}
 use Rattle.rs_mrt.specs.Record.{MrtRecord, octets_of}
 use Rattle.rs_mrt.specs.RecordReading.{read_limit}
 use Rattle.rs_mrt.specs.Source.{Advances, CountsFailure, SomethingComes, Stays, Stops}
-use Rattle.rs_losses.specs.Inserting.{before_record, behind_record, from_the_first, is_lost_before, lost}
-use Rattle.rs_losses.specs.Losses.{loss_record, with_losses}
+use Rattle.rs_losses.specs.Losses.{before_record, behind_record, from_the_first, is_lost_before, loss_record, lost}
+use Rattle.rs_losses.specs.Losses.{with_losses}
 use Rattle.rs_losses.specs.declared.following.Followed.{Followed}
 use Rattle.rs_mrt.specs.declared.losses.Losses.{Losses}
 use Rattle.rs_mrt.specs.declared.losses.Losses.TheVariants as losses

@@ -5,16 +5,14 @@
 //! be recorded with another address. Then the Peer IP Address is 0.0.0.0, as after a lost connection, or the two
 //! addresses are swapped.
 
-ghost use Rattle.std.specs.Prelude.{◌≡◌, None};
-ghost use Rattle.std.specs.Option.{option_map};
+ghost use Rattle.std.specs.Prelude.{◌≡◌};
 ghost use Rattle.rs_mrt.specs.Record.{record_of};
-ghost use Rattle.rs_losses.specs.Losses.{is_begun, is_misplaced, is_recorder, news_of, peer_of};
-ghost use Rattle.rs_losses.specs.Inserting.{Passes, before_record, behind_record, first_record, is_lost_before};
-ghost use Rattle.rs_losses.specs.Inserting.{pass_at, up_with};
+ghost use Rattle.rs_losses.specs.Losses.{before_record, behind_record, is_begun, is_lost_before, is_misplaced};
+ghost use Rattle.rs_losses.specs.Losses.{is_recorder, news_of, peer_of, up_with};
 
 use crate::losses::Sought;
 use rs_inventory::{News, Note, Peer, outlined, recorder};
-use rs_mrt::{HEADER_LEN, Record, Records};
+use rs_mrt::Record;
 
 /// The session that is followed.
 #[derive(Clone, Copy, Debug, PartialEq, Eq, Drop)]
@@ -54,44 +52,6 @@ impl Followed {
             up: !is_lost && self.up,
         };
         (is_lost, before.behind(news))
-    }
-
-    // How many octets the first record takes, and the session after it. None if the octets begin with no whole
-    // record, or if a loss comes before it.
-    fn pass(self, octets: &[u8]) -> Option<(usize, Followed)>
-        ensures { result ≡ pass_at self octets.now }
-    {
-        let recorded = first_record(octets)?;
-        let (is_lost, after) = self.meet(&recorded);
-        if is_lost {
-            return None;
-        }
-        Some((HEADER_LEN + recorded.body.len(), after))
-    }
-
-    /// How many octets the whole records at the front take that come before the first loss, and the session behind
-    /// them.
-    pub(crate) fn pass_all(self, octets: &[u8]) -> (usize, Followed)
-        ensures passes { Passes self octets.now result.0 result.1 }
-        ensures none { result.0 ≡ 0 → pass_at self octets.now ≡ None }
-    {
-        let mut len = 0;
-        let mut now = self;
-        while let Some((record, after)) = now.pass(&octets[len..]) {
-            len += record;
-            now = after;
-        }
-        (len, now)
-    }
-}
-
-// The record at the front, if a whole one stands there.
-fn first_record(octets: &[u8]) -> Option<Record<'_>>
-    ensures { option_map record_of result ≡ first_record octets.now }
-{
-    match Records::new(octets).next() {
-        Ok(found) => found,
-        Err(_) => None,
     }
 }
 

@@ -1,25 +1,17 @@
 //! The record that is put in for a loss (RFC 6396, sections 2 and 4.4.4).
 
 ghost use Rattle.std.specs.Prelude.{◌≡◌};
-ghost use Rattle.rs_mrt.specs.Record.{record_spelling};
 ghost use Rattle.rs_losses.specs.Losses.{loss_record};
 
 use crate::losses::Sought;
 use byteorder::{BigEndian, ByteOrder};
-use rs_mrt::{AFI_IPV4, BGP4MP, HEADER_LEN, STATE_CHANGE_AS4};
+use rs_mrt::{AFI_IPV4, HEADER_LEN};
 
 /// How many octets the record has: its header and its body.
 pub(crate) const LOSS_LEN: usize = HEADER_LEN + BODY_LEN;
 
 /// How many octets its body has.
 pub(crate) const BODY_LEN: usize = 24;
-
-// Where the fields of the header begin, behind the Timestamp (RFC 6396, section 2).
-const KIND_AT: usize = 4;
-
-const SUBTYPE_AT: usize = 6;
-
-const LENGTH_AT: usize = 8;
 
 // Where the fields of BGP4MP_STATE_CHANGE_AS4 begin, behind the Peer AS, that are not zero (RFC 6396, section 4.4.4).
 const FAMILY_AT: usize = 10;
@@ -46,17 +38,4 @@ pub(crate) fn loss_body(peer: Sought) -> [u8; BODY_LEN]
     BigEndian::write_u16(&mut body[OLD_STATE_AT..], ESTABLISHED);
     BigEndian::write_u16(&mut body[NEW_STATE_AT..], NO_STATE);
     body
-}
-
-/// The octets of such a record at this time, in seconds since 1970.
-pub(crate) fn loss_octets(peer: Sought, time: u32) -> [u8; LOSS_LEN]
-    ensures { result ≡ record_spelling (loss_record peer time) }
-{
-    let mut octets = [0; LOSS_LEN];
-    BigEndian::write_u32(&mut octets, time);
-    BigEndian::write_u16(&mut octets[KIND_AT..], BGP4MP);
-    BigEndian::write_u16(&mut octets[SUBTYPE_AT..], STATE_CHANGE_AS4);
-    BigEndian::write_u32(&mut octets[LENGTH_AT..], BODY_LEN as u32);
-    octets[HEADER_LEN..].copy_from_slice(&loss_body(peer));
-    octets
 }

@@ -2,6 +2,7 @@
 -- choice: if the tail is lenient, such a record is left out, and the records end before it.
 use Rattle.std.specs.Prelude.{◌≡◌, Bool, false, List, Option, Some, None, Result, Ok, Err, refl}
 use Rattle.std.specs.Option.{option_map}
+use Rattle.rs_mrt.specs.declared.bounds.Bounds.{Bounds}
 use Rattle.rs_mrt.specs.declared.bounds.Tail.{Tail}
 use Rattle.rs_mrt.specs.declared.bounds.Tail.TheVariants.{Strict, Lenient}
 use Rattle.rs_mrt.specs.declared.fault.MrtFault.TheVariants.{HeaderCutShort, BodyCutShort, FieldsCutShort}
@@ -9,12 +10,17 @@ use Rattle.rs_mrt.specs.declared.fault.MrtFault.TheVariants.{MicrosecondsCutShor
 use Rattle.rs_mrt.specs.declared.fault.SourceFault.{SourceFault}
 use Rattle.rs_mrt.specs.declared.fault.SourceFault.TheVariants.{Mrt, Read}
 use Rattle.rs_mrt.specs.Record.{MrtRecord}
+use Rattle.rs_mrt.specs.RecordReading.{RecordReading, unread_until}
 use Rattle.rs_mrt.specs.Source.{SomethingComes}
 
 -- another source, and what becomes of a record that its end cuts short
 pub record Leniency (S : Type 0) : Type 0 where
   pub source : S
   pub tail : Tail
+
+-- a reader of records within bounds, before its first record
+abbrev pub unread_within : {R : Type 0} → Bounds → R → Leniency (RecordReading R)
+unread_within bounds reader = record { source = unread_until bounds.until reader; tail = bounds.tail }
 
 -- The end of the records, if the source ends so. With a lenient tail a record that is cut short is no fault. A failed
 -- read still is one, and so is a whole record whose octets are at fault.

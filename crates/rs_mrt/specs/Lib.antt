@@ -11,8 +11,6 @@ pub mod Reader  -- what a reader may still give
 pub mod RecordReading  -- the records of a reader
 pub mod Cut  -- a record that the end of its file cuts short
 pub mod Inflow  -- how they are taken, step by step
-pub mod Bounded  -- what a reader within bounds gives
-pub mod Clearing  -- step by step
 pub mod MemoryReading  -- a reader over memory
 pub mod Stream  -- what a writer has taken
 pub mod Memory  -- a writer over memory

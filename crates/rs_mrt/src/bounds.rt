@@ -2,7 +2,7 @@
 
 ghost use Rattle.std.specs.Prelude.{◌≡◌};
 ghost use Rattle.rs_mrt.specs.declared.bounds.Tail.TheVariants.{Strict};
-ghost use Rattle.rs_mrt.specs.Bounds.{are_open, is_time_later};
+ghost use Rattle.rs_mrt.specs.Bounds.{is_time_later};
 
 use crate::losses::Losses;
 
@@ -43,19 +43,6 @@ impl Bounds {
             until: None,
             tail: Tail::Strict,
         }
-    }
-
-    // Whether they leave nothing out of any file.
-    pub(crate) fn are_open(self) -> bool
-        ensures { result ≡ are_open self }
-    {
-        matches!(
-            self,
-            Bounds {
-                until: None,
-                tail: Tail::Strict
-            }
-        )
     }
 }
 

@@ -8,10 +8,11 @@ ghost use Rattle.rs_mrt.specs.Record.{MrtRecord, SplitIsFound, SplitIsTheOnlyOne
 ghost use Rattle.rs_mrt.specs.RecordReading.{MayCome, read_limit, unread, unread_until};
 ghost use Rattle.rs_mrt.specs.Source.{source_end};
 ghost use Rattle.rs_mrt.specs.declared.fault.SourceFault.{SourceFault};
-ghost use Rattle.rs_mrt.specs.Bounds.{EndIsThatWithin, IsBeginning, OpenBoundsLeaveAll, RecordsAreThoseUntil};
-ghost use Rattle.rs_mrt.specs.Bounds.{has_later, records_until};
+ghost use Rattle.rs_mrt.specs.Bounds.{end_within, has_later, records_until};
+ghost use Rattle.rs_mrt.specs.Leniency.{ComesBy, unread_within};
 
 use crate::bgp4mp::FRONT_LEN;
+use crate::bounds::Bounds;
 use crate::reader::Read;
 
 /// A file is records and a rest in one way, and the computed records and rest are these (RFC 6396, section 2).
@@ -51,14 +52,19 @@ pub fn known_octets_are_shown_up_to<R: Read>(_reader: &R, _file: &[u8], _time: u
         × (fault ≡ (if has_later (Some _time) _file.now then None else source_end (end_of _file.now))) }
 {}
 
-/// What is read of a file within bounds is a file too, a beginning of it. Its records are those before the first that
-/// is later. It ends as the file does if no record is later and the tail is strict, else after whole records.
-/// Bounds that are open leave nothing out.
-pub fn what_is_within_bounds()
-    ensures beginning { IsBeginning }
-    ensures records { RecordsAreThoseUntil }
-    ensures end { EndIsThatWithin }
-    ensures all { OpenBoundsLeaveAll }
+/// A reader of known octets, fewer than 2^50, that is read within bounds gives the front of each record before the first
+/// that is later. They end with the fault of the file's own end if no record is later and the tail is strict, or else
+/// with none. So `Lenient` answers over a `RecordReader` up to the time of the bounds.
+pub fn what_is_within_bounds<R: Read>(_reader: &R, _file: &[u8], _bounds: Bounds)
+    requires known { (octets : List ℕ) (end : ReadEnd) → R.gives _reader.now octets end
+        → (octets ≡ _file.now) × (end ≡ FileEnds) }
+    requires fits { length _file.now < read_limit }
+    ensures records { (records : List MrtRecord) (fault : Option SourceFault)
+        → ComesBy (MayCome R.gives) (unread_within _bounds _reader.now) records fault
+        → records ≡ map front_of (records_until _bounds.until _file.now) }
+    ensures end { (records : List MrtRecord) (fault : Option SourceFault)
+        → ComesBy (MayCome R.gives) (unread_within _bounds _reader.now) records fault
+        → fault ≡ source_end (end_within _bounds _file.now) }
 {}
 
 /// The definitions say of some octets, records and calls what one would say by hand.

@@ -2,7 +2,7 @@
 //! and the header of a record that is written.
 //!
 //! Reading order: `record`, `fault`, `meaning`, `bgp4mp`, `source`. How a file is read: `losses`, `bounds`,
-//! `lenient`. Files in pieces: `reader`, `inlet`, `window`, `cut`, `record_reader`; a part of one: `bounded_reader`. What is written:
+//! `lenient`. Files in pieces: `reader`, `inlet`, `window`, `cut`, `record_reader`. What is written:
 //! `spelling`, `stream`. At last `memory`, `memory_reader`; `laws`.
 //!
 //! Standards: RFC 6396, sections 2 (header), 3 and 4.5 (BGP4MP_ET), 4.4.3 and 4.4.4 (BGP4MP with AS numbers of four
@@ -10,7 +10,6 @@
 #![tactic(auto)]
 
 mod bgp4mp;
-mod bounded_reader;
 mod bounds;
 mod cut;
 mod fault;
@@ -30,7 +29,6 @@ mod stream;
 mod window;
 
 pub use bgp4mp::{AFI_IPV4, BGP4MP, BGP4MP_ET, FRONT_LEN, MESSAGE_AS4, STATE_CHANGE_AS4, entry};
-pub use bounded_reader::BoundedReader;
 pub use bounds::{Bounds, FileReading, Tail};
 pub use cut::Cut;
 pub use fault::{MrtFault, SourceFault};

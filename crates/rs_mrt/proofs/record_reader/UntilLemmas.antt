@@ -1,4 +1,4 @@
--- The records before the first one that is later than a time, one record at a time: for FrontLemmas, FindLemmas and BoundsLemmas.
+-- The records before the first one that is later than a time, one record at a time: for FrontLemmas and FindLemmas.
 use Rattle.std.proofs.Common.{◌≡◌, ℕ, ◌≤◌, true, false, Bool, ◌||◌, List, [], ◌∷◌, ◌++◌, length, Option, Some, None, ap, ◌∙◌}
 use Rattle.std.proofs.Common.{arith, inl, inr, length-append}
 use Rattle.std.specs.Prelude.{nat_le, not, take_while, if◌then◌else◌}
@@ -110,10 +110,6 @@ none-later : (until : Option ℕ) (octets : List ℕ) → has_record octets ≡ 
 none-later until octets lacks in_time =
     ap (λ (rs : List MrtRecord). list_any (is_later until) rs || rest_is_later until (rest_of octets)) (records_of-none octets lacks)
     ∙ ap (rest_is_later until) (rest_of-none octets lacks) ∙ in_time
-
-pub rest-not-later : (until : Option ℕ) (octets : List ℕ) → has_record octets ≡ false
-    → (12 ≤ length octets → is_time_later until (big_number 4 octets) ≡ false) → has_later until octets ≡ false
-rest-not-later until octets lacks in_time = none-later until octets lacks (rest-in-time until octets in_time)
 
 -- nothing is read, and the end is what the octets mean
 pub read-none : (until : Option ℕ) (octets : List ℕ) → has_record octets ≡ false → records_read until octets ≡ []

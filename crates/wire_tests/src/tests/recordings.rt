@@ -10,6 +10,7 @@
 //! - `entries`: what each record says.
 //! - `bodies` and `lengths`: the records themselves.
 //! - `marks`: the time of each record, and which ones were put in.
+//! - `places`: the time of each record, where it begins, and where one is cut short; up to which time.
 //! - `inventory`: what the file holds; the lines are some of it.
 //! - `whole inventory`: what the file holds; the lines are all of it.
 //!
@@ -20,6 +21,7 @@
 mod attributes;
 mod inventories;
 mod losses;
+mod places;
 mod records;
 mod refusals;
 mod sessions;
@@ -28,10 +30,10 @@ mod told;
 
 use super::said::Said;
 use super::words::Octets;
-use rs_losses::{LossReader, Sought, WithLosses};
+use rs_losses::{Sought, WithLosses};
 use rs_mrt::{
-    Entry, Losses, MemoryReader, MrtFault, ReadLimits, Record, RecordReader, Records, Source,
-    SourceFault, entry,
+    Cut, Entry, Losses, MemoryReader, MrtFault, Read, ReadLimits, Record, RecordReader, Records,
+    Source, SourceFault, entry,
 };
 use rs_ring::Closing;
 use rs_session::{Body, PeerId, Reason, Session, Word};
@@ -364,7 +366,7 @@ fn add_marks<S: Source>(said: &mut Said, source: &mut WithLosses<S>) {
     }
 }
 
-// Appends what a file says with losses put in: between its records, and then also between its octets.
+// Appends what a file says with losses put in.
 fn add_with_losses(said: &mut Said, alloc: Global, file: &[u8], way: &str, piece: usize) {
     let (losses, peer) = losses_of(way);
     let records = RecordReader::new(MemoryReader::new(file, limits_of(way, piece)));
@@ -373,13 +375,45 @@ fn add_with_losses(said: &mut Said, alloc: Global, file: &[u8], way: &str, piece
         return add_marks(said, &mut source);
     }
     add_said_by(said, alloc, source, way);
-    let mut other = Said::new(alloc);
-    let reader = MemoryReader::new(file, limits_of(way, piece));
-    let reader = LossReader::new(alloc, reader, losses, peer);
-    add_said_by(&mut other, alloc, RecordReader::new(reader), way);
-    if said.text() != other.text() {
-        said.add("\n    other losses between the octets");
+}
+
+// Appends where a record is cut short, behind how many of its octets, and its time, if one is.
+fn add_cut(said: &mut Said, cut: Option<Cut>) {
+    let Some(Cut { octet, len, time }) = cut else {
+        return;
+    };
+    said.add(format_args!("\n    cut at {octet} behind {len} of its octets"));
+    if let Some(time) = time {
+        said.add(format_args!(", time {time}"));
     }
+}
+
+// Goes one record on, and appends its time and where it begins, or how the reader stops, and where. Answers whether
+// there is one.
+fn add_place<R: Read>(said: &mut Said, records: &mut RecordReader<R>) -> bool {
+    let more = records.advance();
+    let shown = records.shown().map(|record| record.time);
+    match shown {
+        Some(time) => said.add(format_args!("\n    {time}")),
+        None => add_stop(said, more),
+    }
+    let place = records.place();
+    said.add(format_args!(" at {place}"));
+    add_cut(said, records.cut());
+    shown.is_some()
+}
+
+// Appends where the records of a file begin, and how the reader stops twice.
+fn add_places(said: &mut Said, file: &[u8], way: &str, piece: usize) {
+    let until = number_after(way, "until ").and_then(|time| u32::try_from(time).ok());
+    let reader = MemoryReader::new(file, limits_of(way, piece));
+    let mut records = RecordReader::up_to(reader, until);
+    for _ in 0..1000 {
+        if !add_place(said, &mut records) {
+            break;
+        }
+    }
+    add_place(said, &mut records);
 }
 
 // What a file says to the one who reads it so, in pieces of at most so many octets, or at hand if they are none.
@@ -392,6 +426,8 @@ fn read(alloc: Global, file: &[u8], way: &str, piece: usize) -> Said {
     };
     if way.contains("inventory") {
         add_told(&mut said, alloc, file, limits_of(way, piece));
+    } else if way.starts_with("places") {
+        add_places(&mut said, file, way, piece);
     } else if way.contains("losses") {
         add_with_losses(&mut said, alloc, file, way, piece);
     } else if piece == 0 {
