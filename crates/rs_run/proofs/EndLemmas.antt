@@ -1,5 +1,5 @@
 -- How sessions ended that were served, file by file.
-use Rattle.std.proofs.Common.{◌≡◌, ◌∙◌, sym, ap, refl, ℕ, suc, arith, Bool, true, false, List, [], ◌∷◌, ◌++◌, Some, length, map}
+use Rattle.std.proofs.Common.{◌≡◌, ◌∙◌, sym, ap, refl, ℕ, suc, arith, Bool, true, false, List, [], ◌∷◌, ◌++◌, Option, Some, length, map}
 use Rattle.std.specs.Prelude.{◌||◌, slice_get}
 use Rattle.std.specs.List.{zip}
 use Rattle.rs_choice.specs.Plan.{Peer, Plan}
@@ -9,9 +9,11 @@ use Rattle.rs_serve.specs.declared.ended.PeerEnd.{PeerEnd}
 use Rattle.rs_mrt.specs.Reader.{ReadEnd}
 use Rattle.rs_mrt.specs.Record.{records_of, end_of}
 use Rattle.rs_mrt.specs.Source.{source_end}
+use Rattle.rs_mrt.specs.declared.fault.SourceFault.{SourceFault}
 use Rattle.rs_session.specs.Change.{Change, ChangeBody, Announced, Withdrawn, Lost, Closed, body_closes}
 use Rattle.rs_session.specs.FileChanges.{changes_in_by, passed_in_by, close_at}
-use Rattle.rs_session.specs.Laws.{ClosesOnce, has_close}
+use Rattle.rs_session.specs.Laws.{ClosesLast, ClosesOnce, has_close}
+use Rattle.rs_session.specs.Told.{ClosesFor}
 use Rattle.rs_session.specs.declared.peer.PeerId.{PeerId}
 use Rattle.rs_change.specs.declared.word.Reason.{Reason}
 use Rattle.rs_update.specs.declared.errors.Errors.{Errors}
@@ -41,7 +43,7 @@ reason-last (x ∷ xs) time reason none =
     ∙ reason-last xs time reason (or-second (body_closes x.body) (has_close xs) none)
 
 -- two lists that are one have the same last member
-last-same : {X : Type 0} (xs ys : List X) (x y : X) → xs ++ x ∷ [] ≡ ys ++ y ∷ [] → x ≡ y
+pub last-same : {X : Type 0} (xs ys : List X) (x y : X) → xs ++ x ∷ [] ≡ ys ++ y ∷ [] → x ≡ y
 last-same [] [] x y e = cc
 last-same [] (b ∷ []) x y e = absurd cc
 last-same [] (b ∷ c ∷ ys) x y e = absurd cc
@@ -49,20 +51,26 @@ last-same (a ∷ []) [] x y e = absurd cc
 last-same (a ∷ c ∷ xs) [] x y e = absurd cc
 last-same (a ∷ xs) (b ∷ ys) x y e = let later : xs ++ x ∷ [] ≡ ys ++ y ∷ [] = cc in last-same xs ys x y later
 
-reason-same : (t u : ℕ) (reason other : Reason) → close_at t reason ≡ close_at u other → reason ≡ other
+pub reason-same : (t u : ℕ) (reason other : Reason) → close_at t reason ≡ close_at u other → reason ≡ other
 reason-same t u reason other e = let bodies : Closed reason ≡ Closed other = ap (λ (c : Change). c.body) e in cc
+
+-- the reason of a close that is the last change is that of the one close
+pub reason-is : (end : Option SourceFault) (changes : List Change) (reason : Reason) → ClosesLast end changes
+    → ClosesFor changes reason → reason ≡ reason_in changes
+reason-is end changes reason close closes =
+    reason-same closes.time close.time reason close.reason
+    (last-same closes.before close.before (close_at closes.time reason) (close_at close.time close.reason)
+    (sym closes.splits ∙ close.splits))
+    ∙ sym (reason-last close.before close.time close.reason close.none_before) ∙ ap reason_in (sym close.splits)
 
 -- a session that ended as a file says ended so
 end-is : ClosesOnce → (errors : Errors) (peer : PeerId) (file : List ℕ) (end : PeerEnd) → IsEndOf errors peer file end
     → end ≡ end_in errors peer file
 end-is once errors peer file end is =
     let changes = changes_in_by errors peer file in
-    let close = once errors peer (records_of file) (source_end (end_of file)) in
-    let last : close_at is.time end.reason ≡ close_at close.time close.reason =
-    last-same is.before close.before (close_at is.time end.reason) (close_at close.time close.reason) (sym is.closes ∙ close.splits) in
-    let reason : end.reason ≡ reason_in changes =
-    reason-same is.time close.time end.reason close.reason last
-    ∙ sym (reason-last close.before close.time close.reason close.none_before) ∙ ap reason_in (sym close.splits) in
+    let last = source_end (end_of file) in
+    let closes : ClosesFor changes end.reason = record { before = is.before; time = is.time; splits = is.closes } in
+    let reason = reason-is last changes end.reason (once errors peer (records_of file) last) closes in
     let told : ℕ → ℕ → Reason → PeerEnd = λ n m r. record { changes = n; passed = m; reason = r } in
     ap (λ (n : ℕ). told n end.passed end.reason) is.changes_are ∙ ap (λ (m : ℕ). told (length changes) m end.reason) is.passed_are
     ∙ ap (told (length changes) (passed_in_by errors peer file)) reason

@@ -2,3 +2,4 @@ pub mod EndLemmas
 pub mod RunLemmas
 mod RefusalLemmas
 mod OctetLemmas
+mod RecordsLemmas

@@ -85,6 +85,37 @@ pub fn run<T: Threads + Wait + Sync, O: Outlet, W: Write, R: Read + Send + Drop>
     write_served(rt, alloc, &setup.plan, served, options.time, outlet, report)
 }
 
+/// `run` over sources of records: `sources` gives the recording of each peer, in the order of the peers.
+pub(crate) fn run_sources<
+    T: Threads + Wait + Sync,
+    O: Outlet,
+    W: Write,
+    S: Source + Send + Drop,
+>(
+    rt: &T,
+    alloc: Global,
+    setup: &Setup,
+    sources: Vec<S>,
+    options: &Options,
+    outlet: &mut O,
+    report: &mut W,
+) -> Result<(), RunFault>
+    requires one_for_each { length sources.items ≡ length setup.now.plan.value.peers }
+    requires room { All (λ source. S.room source ≤ 2 ^ 50) sources.items }
+    requires outlet_failures { O.failures outlet.old < u64.MAX }
+    requires report_failures { W.failures report.old < u64.MAX }
+    requires ring { (1 ≤ options.now.ring) × (options.now.ring ≤ 65536) }
+    requires shards { (1 ≤ options.now.shards) × (options.now.shards ≤ 16) }
+    ensures answer { RunAnswer
+        (OverSourcesServed S.comes S.shows options.now.errors setup.now.plan.value sources.items)
+        (SourceFailsAt S.comes S.shows options.now.errors setup.now.plan.value sources.items)
+        O.kept O.failures W.taken W.failures setup.now.plan.value options.now.time
+        outlet.old outlet.new report.old report.new result }
+{
+    let served = serve_recordings(rt, alloc, &setup.plan, sources, options)?;
+    write_served(rt, alloc, &setup.plan, served, options.time, outlet, report)
+}
+
 /// What a run has done that did not fail.
 #[derive(Drop)]
 pub struct Ran {
