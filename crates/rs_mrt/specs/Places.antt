@@ -1,5 +1,5 @@
 -- Where the records of a file begin, and how a reader of records goes from one to the next (RFC 6396, section 2).
-use Rattle.std.specs.Prelude.{◌≡◌, ℕ, ◌-◌, ◌≤◌, Bool, true, false, List, [], ◌∷◌, ◌++◌, length, drop, sum_by, Option, Some, Result, Ok}
+use Rattle.std.specs.Prelude.{◌≡◌, ℕ, ◌-◌, ◌≤◌, Bool, true, false, List, [], ◌∷◌, ◌++◌, length, drop, sum_by, Some, Result, Ok}
 use Rattle.std.specs.Prelude.{Err}
 use Rattle.rs_mrt.specs.declared.fault.SourceFault.{SourceFault}
 use Rattle.rs_mrt.specs.declared.fault.SourceFault.TheVariants.{Mrt, Read}
@@ -7,6 +7,7 @@ use Rattle.rs_mrt.specs.Reader.{ReadEnd}
 use Rattle.rs_mrt.specs.Record.{MrtRecord, octets_of, records_of}
 use Rattle.rs_mrt.specs.Entry.{front_of}
 use Rattle.rs_mrt.specs.RecordReading.{MayArrive, RecordReading}
+use Rattle.rs_mrt.specs.Cut.{cut_at, cut_of}
 
 -- how many octets records take
 abbrev pub octets_in : List MrtRecord → ℕ
@@ -34,10 +35,11 @@ module _ {R : Type 0} (gives : R → List ℕ → ReadEnd → Type 0) (file : Li
     pub passed : HasPassed (before ++ next ∷ []) reading
 
   -- What an answer says of places, if these records were passed before. If there is a record, it is the next one. If
-  -- the end of the file cuts it short, all octets of the file came behind its place.
+  -- the end of the file cuts it short, it is the rest of the file.
   abbrev pub SaysPlace : List MrtRecord → RecordReading R → Result Bool SourceFault → Type 0
   SaysPlace before reading (Ok true) = PassesNext before reading
   SaysPlace before reading (Ok false) = Unit {0}
   SaysPlace before reading (Err (Mrt fault)) =
-      reading.inflow.came - reading.place ≡ length (drop (octets_in before) file)
+      let rest = drop (octets_in before) file in
+      cut_of reading ≡ Some (cut_at (octets_in before) (length rest) rest)
   SaysPlace before reading (Err Read) = Unit {0}

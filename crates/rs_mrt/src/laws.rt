@@ -53,8 +53,8 @@ pub fn known_octets_are_shown_up_to<R: Read>(_reader: &R, _file: &[u8], _time: u
         × (fault ≡ (if has_later (Some _time) _file.now then None else source_end (end_of _file.now))) }
 {}
 
-/// A reader of known octets, fewer than 2^50, has passed no record of them at first. So by the clause `next` of
-/// `RecordReader`'s `advance` it shows one record after another, each at its place.
+/// A reader of known octets, fewer than 2^50, has passed no record of them at first. So each record is shown at its
+/// place, by the clause `next` of `advance`: behind as many octets as the records before it take.
 pub fn a_reader_begins_before_the_first_record<R: Read>(
     _reader: &R,
     _file: &[u8],

@@ -192,7 +192,8 @@ impl<R: Read> Source for RecordReader<R> {
             → self.new.inflow.reader ≡ self.old.inflow.reader }
         // The next record begins where those octets begin that came and stand behind the record that was shown.
         ensures place { self.old.stopped ≡ None → self.new.place ≡ self.old.inflow.came - length self.old.held }
-        // If the reader has passed the first records of a file, it shows the next one, at its place.
+        // If the reader has passed the first records of a file, it shows the next one, at its place, or says how the
+        // end of the file cuts it short.
         ensures next { (file : List ℕ) (before : List MrtRecord) → self.old.stopped ≡ None
             → HasPassed R.gives file before self.old → SaysPlace R.gives file before self.new result }
     {

@@ -1,17 +1,23 @@
 -- Where the record that is found next begins in its file: for `advance` of record_reader.rt, and laws.rt.
 use Rattle.std.proofs.Common.{◌≡◌, ℕ, ◌+◌, ◌-◌, ◌≤◌, ◌<◌, Bool, true, false, List, [], ◌∷◌, ◌++◌, length, take, drop, Option, Some, None}
-use Rattle.std.proofs.Common.{Result, Ok, Err, refl, sym, ap, ◌∙◌, append_assoc, arith, length-append}
-use Rattle.std.proofs.lemmas.List.{drop-drop, length-drop, length-take, take_all}
+use Rattle.std.proofs.Common.{Result, Ok, Err, refl, sym, ap, ◌∙◌, append_assoc, arith, inl, inr, length-append}
+use Rattle.std.specs.Prelude.{◌⊎◌, nat_lt, if◌then◌else◌}
+use Rattle.std.proofs.lemmas.Bool.{cond-true, le-leb}
+use Rattle.std.proofs.lemmas.List.{append-nil, drop-drop, length-drop, length-take, take_all}
 use Rattle.std.proofs.lemmas.List.Sums.{sum_by_push}
+use Rattle.byteorder.specs.Numbers.{big_from-append}
+use Rattle.rs_mrt.specs.declared.cut.Cut.{Cut}
 use Rattle.rs_mrt.specs.declared.fault.MrtFault.{MrtFault}
+use Rattle.rs_mrt.specs.declared.fault.MrtFault.TheVariants.{HeaderCutShort, BodyCutShort}
 use Rattle.rs_mrt.specs.declared.fault.SourceFault.{SourceFault}
 use Rattle.rs_mrt.specs.declared.fault.SourceFault.TheVariants.{Mrt, Read}
 use Rattle.rs_mrt.specs.declared.stream.Failed.{Failed}
 use Rattle.rs_mrt.specs.Reader.{ReadEnd, FileEnds, ReadFails, SomethingIsGiven}
-use Rattle.rs_mrt.specs.Record.{MrtRecord, after_record, front_record, has_record, length_field, octets_of, records_of}
-use Rattle.rs_mrt.specs.Entry.{front_of}
+use Rattle.rs_mrt.specs.Record.{MrtRecord, after_record, front_record, has_record, header_len, length_field, octets_of, records_of}
+use Rattle.rs_mrt.specs.Record.{fault_of_rest}
 use Rattle.rs_mrt.specs.RecordReading.{Inflow, MayArrive, RecordReading, end_within, read_limit, unread_until}
-use Rattle.rs_mrt.specs.Inflow.{Draws, GoesOn, answer_behind, call_at}
+use Rattle.rs_mrt.specs.Inflow.{Draws, GoesOn, answer_at, answer_behind, call_at}
+use Rattle.rs_mrt.specs.Cut.{cut_at, ends_in_record, time_in}
 use Rattle.rs_mrt.specs.Places.{HasPassed, PassesNext, SaysPlace, octets_in, past_of}
 use Rattle.rs_mrt.proofs.record.RecordLemmas.{has_record-long, length-after_record, records_of-step}
 use Rattle.rs_mrt.proofs.record_reader.FrontLemmas.{after_record-append, front_record-append, has_record-append}
@@ -22,6 +28,32 @@ octets-front : (octets : List ℕ) → has_record octets ≡ true → octets_of 
 octets-front octets stands =
     let long = has_record-long octets stands in
     omega (arith, length-take (length_field octets) (drop 12 octets), length-drop 12 octets, long.0, long.1)
+
+-- ---- where a record is cut short
+
+-- the fault says so
+cut-fault : (rest : List ℕ) (answer : Result Bool SourceFault) (fault : MrtFault) → answer ≡ Err (Mrt fault)
+    → answer ≡ answer_at (fault_of_rest rest) → ends_in_record (Some answer) ≡ true
+cut-fault [] answer fault is says = absurd (cc (is, says))
+cut-fault (octet ∷ octets) answer fault is says = by (nat_lt (length (octet ∷ octets)) header_len) says
+  where
+    by : (short : Bool) → answer ≡ answer_at (if short then Some HeaderCutShort else Some BodyCutShort)
+        → ends_in_record (Some answer) ≡ true
+    by true header = ap (λ (a : Result Bool SourceFault). ends_in_record (Some a)) header
+    by false body = ap (λ (a : Result Bool SourceFault). ends_in_record (Some a)) body
+
+abbrev cut_with : ℕ → ℕ → Option ℕ → Cut
+cut_with octet len time = record { octet = octet; len = len; time = time }
+
+-- the octets at hand have its Timestamp, if its octets have
+time-kept : (held gone : List ℕ) → (gone ≡ []) ⊎ (12 ≤ length held) → time_in held ≡ time_in (held ++ gone)
+time-kept held gone (inl none) = ap time_in (sym (append-nil held)) ∙ ap (λ (z : List ℕ). time_in (held ++ z)) (sym none)
+time-kept held gone (inr long) =
+    cond-true _ _ _ (le-leb 4 (length held) (omega (arith, long)))
+    ∙ ap Some (sym (big_from-append 4 held gone (omega (arith, long))))
+    ∙ sym (cond-true _ _ _ (le-leb 4 (length (held ++ gone)) (omega (arith, long, length-append held gone))))
+
+-- ---- what is found next
 
 module _ {R : Type 0} (gives : R → List ℕ → ReadEnd → Type 0) (failures : R → ℕ) (file : List ℕ) where
   -- the record that is found is the next one
@@ -75,8 +107,8 @@ module _ {R : Type 0} (gives : R → List ℕ → ReadEnd → Type 0) (failures 
   -- where a record is cut short, the octets ended
   ended : (old new : Inflow R) (held piece : List ℕ) (end : ReadEnd) (failed : Failed) (fault : MrtFault) (answer : Result Bool SourceFault)
       → answer ≡ Err (Mrt fault) → answer ≡ answer_behind end (held ++ piece) → Draws gives failures old new piece (call_at end failed)
-      → MayArrive gives old piece FileEnds
-  ended old new held piece FileEnds failed fault answer is says drawn = drawn.behind
+      → MayArrive gives old piece FileEnds × (ends_in_record (Some answer) ≡ true)
+  ended old new held piece FileEnds failed fault answer is says drawn = (drawn.behind, cut-fault (held ++ piece) answer fault is says)
   ended old new held piece ReadFails failed fault answer is says drawn = absurd (cc (is, says))
 
   pub goes-next : (before : List MrtRecord) (old new : RecordReading R) (result : Result Bool SourceFault)
@@ -87,10 +119,19 @@ module _ {R : Type 0} (gives : R → List ℕ → ReadEnd → Type 0) (failures 
   goes-next before old new (Err Read) some place passed goes = tt
   goes-next before old new (Err (Mrt fault)) some place passed goes =
       let none = goes.0 in
-      let come = ended old.inflow new.inflow old.held none.piece none.end none.failed fault (Err (Mrt fault)) refl none.says none.drawn in
-      let rest : old.held ++ none.piece ≡ drop (octets_in before) file =
-      passed.stands none.piece FileEnds come ∙ ap (λ (n : ℕ). drop n file) passed.past in
-      omega (arith, place, passed.fits, none.drawn.came, length-append old.held none.piece, ap length rest)
+      let at = ended old.inflow new.inflow old.held none.piece none.end none.failed fault (Err (Mrt fault)) refl none.says none.drawn in
+      let rest = drop (octets_in before) file in
+      let left : old.held ++ none.piece ≡ rest =
+      passed.stands none.piece FileEnds at.0 ∙ ap (λ (n : ℕ). drop n file) passed.past in
+      let octet : new.place ≡ octets_in before = place ∙ passed.past in
+      let len : new.inflow.came - new.place ≡ length rest =
+      omega (arith, place, passed.fits, none.drawn.came, length-append old.held none.piece, ap length left) in
+      let time : time_in new.held ≡ time_in rest =
+      time-kept new.held none.gone none.kept ∙ ap time_in (none.whole ∙ left) in
+      cond-true _ _ _ (ap ends_in_record goes.2 ∙ at.1)
+      ∙ ap (λ (n : ℕ). Some (cut_at n (new.inflow.came - new.place) new.held)) octet
+      ∙ ap (λ (n : ℕ). Some (cut_at (octets_in before) n new.held)) len
+      ∙ ap (λ (t : Option ℕ). Some (cut_with (octets_in before) (length rest) t)) time
 
   -- before the first record none was passed
   pub begins : (until : Option ℕ) (reader : R) → ((octets : List ℕ) (end : ReadEnd) → gives reader octets end
