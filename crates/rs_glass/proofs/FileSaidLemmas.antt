@@ -6,15 +6,12 @@ use Rattle.std.specs.List.{flat_map}
 use Rattle.std.proofs.lemmas.List.{map-append}
 use Rattle.std.proofs.lemmas.List.Sums.{take_while-cons}
 use Rattle.rs_update.specs.declared.errors.Errors.{Errors}
-use Rattle.rs_mrt.specs.Reader.{ReadEnd}
 use Rattle.rs_mrt.specs.Record.{MrtRecord}
-use Rattle.rs_mrt.specs.RecordReading.{MayCome, RecordReading, unread}
 use Rattle.rs_mrt.specs.declared.fault.SourceFault.{SourceFault}
 use Rattle.rs_mrt.specs.declared.fault.SourceFault.TheVariants as faults
 use Rattle.rs_session.specs.Change.{Change, ChangeBody, Closed, is_read}
 use Rattle.rs_session.specs.Effect.{effect_of}
 use Rattle.rs_session.specs.FileChanges.{changes_by, changes_of, closing, ends, open_records}
-use Rattle.rs_session.specs.Laws.{GivesFileOrFails}
 use Rattle.rs_session.specs.Stage.{Comes, fresh, passed_in_the_end}
 use Rattle.rs_session.specs.declared.peer.PeerId.{PeerId}
 use Rattle.rs_change.specs.declared.word.Reason.{Reason}
@@ -141,54 +138,43 @@ closed-last said close reason is =
     ∙ ap is_failed_read (close_in-more (map (λ (one : SaidChange). one.change) said) close.change)
     ∙ ap (λ (body : ChangeBody). is_failed_read (close_after (close_in (map (λ (one : SaidChange). one.change) said)) body)) is
 
-module _ {R : Type 0} (gives : R → List ℕ → ReadEnd → Type 0) (question : Question) (peer : PeerId) (reader : R)
-    (read : GivesFileOrFails gives reader) where
-  -- the changes of records that may come of a reader
-  changes-come : (records : List MrtRecord) (end : Option SourceFault) → MayCome gives (unread reader) records end
-      → AreChangesOf gives question peer reader (changes_of question.errors peer records end)
-  changes-come records end come = record {
-    passed = passed_in_the_end (fresh (unread reader) peer question.errors) records;
-    says = read question.errors peer (changes_of question.errors peer records end)
-        (passed_in_the_end (fresh (unread reader) peer question.errors) records)
-        (record {
-          records = records;
-          end = end;
-          may_read = record { later = records; come = come; read = refl };
-          left = refl;
-          counted = refl;
-        });
+module _ {S : Type 0} (comes : Comes S) (shows : S → Option MrtRecord) (question : Question) (peer : PeerId) (start : S) where
+  -- the changes of records that may come are those that the session may tell
+  said-come : (said : List SaidChange) (records : List MrtRecord) (end : Option SourceFault) → comes start records end
+      → said ≡ said_in question.errors peer records end
+      → AreChangesOf comes shows question peer start (map (λ (one : SaidChange). one.change) said)
+  said-come said records end come is = record {
+    passed = passed_in_the_end (fresh start peer question.errors) records;
+    says = record {
+      records = records;
+      end = end;
+      may_read = record { later = records; come = come; read = refl };
+      left = ap (map (λ (one : SaidChange). one.change)) is ∙ said_in-changes question.errors peer records end;
+      counted = refl;
+    };
   }
 
-  said-come : (said : List SaidChange) (records : List MrtRecord) (end : Option SourceFault) → MayCome gives (unread reader) records end
-      → said ≡ said_in question.errors peer records end
-      → AreChangesOf gives question peer reader (map (λ (one : SaidChange). one.change) said)
-  said-come said records end come is =
-      subst (AreChangesOf gives question peer reader)
-      (sym (ap (map (λ (one : SaidChange). one.change)) is ∙ said_in-changes question.errors peer records end))
-      (changes-come records end come)
-
-  module _ (said : List SaidChange) (reading : RecordReading R)
-      (so_far : HasSaid question.errors peer (MayCome gives) (unread reader) said reading) where
+  module _ (said : List SaidChange) (source : S) (so_far : HasSaid question.errors peer comes start said source) where
     -- it closes for another reason than a failed read
     pub said-whole : (records : List MrtRecord) (end : Option SourceFault) (close : SaidChange) (reason : Reason)
-        → MayCome gives reading records end → said_in question.errors peer records end ≡ close ∷ []
+        → comes source records end → said_in question.errors peer records end ≡ close ∷ []
         → close.change.body ≡ Closed reason → is_read reason ≡ false
-        → IsSaidWhole gives question peer reader (said ++ close ∷ [])
+        → IsSaidWhole comes shows question peer start (said ++ close ∷ [])
     said-whole records end close reason come says closes readable =
         let is : said ++ close ∷ [] ≡ said_in question.errors peer (so_far.came ++ records) end =
         sym (so_far.splits records end ∙ ap (λ (all : List SaidChange). said ++ all) says) in
-        let comes = so_far.before records end come in
+        let all_come = so_far.before records end come in
         record {
           records = so_far.came ++ records;
           end = end;
-          come = comes;
+          come = all_come;
           said_is = is;
-          says = said-come (said ++ close ∷ []) (so_far.came ++ records) end comes is;
+          says = said-come (said ++ close ∷ []) (so_far.came ++ records) end all_come is;
           unfailed = closed-last said close reason closes ∙ readable;
         }
 
     -- or a read failed
-    pub said-unread : MayCome gives reading [] (Some faults.Read) → ClosesUnread gives question peer reader
+    pub said-unread : comes source [] (Some faults.Read) → ClosesUnread comes shows question peer start
     said-unread come =
         let close : SaidChange = closing_at_end reasons.Read in
         let is : said ++ close ∷ [] ≡ said_in question.errors peer (so_far.came ++ []) (Some faults.Read) =

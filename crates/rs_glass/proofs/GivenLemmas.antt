@@ -3,15 +3,10 @@ use Rattle.std.proofs.Common.{◌≡◌, subst, ℕ, ◌+◌, ◌≤◌, ◌<◌
 use Rattle.std.specs.Prelude.{if◌then◌else◌}
 use Rattle.std.specs.List.{list_any}
 use Rattle.std.proofs.lemmas.List.{append-nil}
-use Rattle.rs_mrt.specs.Reader.{ReadEnd}
 use Rattle.rs_mrt.specs.Record.{MrtRecord}
 use Rattle.rs_session.specs.Change.{Change, is_close}
-use Rattle.rs_session.specs.Given.{IsRead}
 use Rattle.rs_session.specs.Laws.{SomethingMayCome}
 use Rattle.rs_session.specs.Stage.{Comes, Stage, May, Says}
-use Rattle.rs_session.specs.declared.peer.PeerId.{PeerId}
-use Rattle.rs_glass.specs.Recorded.{AreChangesOf}
-use Rattle.rs_glass.specs.declared.question.Question.{Question}
 
 -- each change that is given leaves fewer to come
 pub few-smaller : (before after : ℕ) (old new closes : Bool) → old ≡ false → new ≡ closes → after + (if closes then 0 else 1) ≤ before
@@ -35,19 +30,11 @@ module _ {S : Type 0} (comes : Comes S) (shows : S → Option MrtRecord) (start 
     closed = unclosed;
   }
 
-  module _ {R : Type 0} (gives : R → List ℕ → ReadEnd → Type 0) (question : Question) (peer : PeerId) (reader : R)
-      (read : (changes : List Change) (passed : ℕ) → May comes shows start changes passed
-      → IsRead gives question.errors peer reader changes passed) where
-    -- where no more may come, those are all
-    pub given-all : (given : List Change) (old new : Stage S) → IsGiven given old
-        → Says comes shows old new (Ok None) → SomethingMayCome comes shows new → AreChangesOf gives question peer reader given
-    given-all given old new is says may_come =
-        let some : SomethingMayCome comes shows old = subst (SomethingMayCome comes shows) says.1 may_come in
-        let none : May comes shows old [] some.1 =
-        subst (λ (all : List Change). May comes shows old all some.1) (says.0 some.0 some.1 some.2).0 some.2 in
-        let whole : May comes shows start given some.1 =
-        subst (λ (all : List Change). May comes shows start all some.1) (append-nil given) (is.before [] some.1 none) in
-        record {
-          passed = some.1;
-          says = read given some.1 whole;
-        }
+  -- where no more may come, those are all
+  pub given-all : (given : List Change) (old new : Stage S) → IsGiven given old → Says comes shows old new (Ok None)
+      → SomethingMayCome comes shows new → (passed : ℕ) × May comes shows start given passed
+  given-all given old new is says may_come =
+      let some : SomethingMayCome comes shows old = subst (SomethingMayCome comes shows) says.1 may_come in
+      let none : May comes shows old [] some.1 =
+      subst (λ (all : List Change). May comes shows old all some.1) (says.0 some.0 some.1 some.2).0 some.2 in
+      (some.1, subst (λ (all : List Change). May comes shows start all some.1) (append-nil given) (is.before [] some.1 none))

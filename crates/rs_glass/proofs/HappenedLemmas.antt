@@ -3,10 +3,10 @@ use Rattle.std.proofs.Common.{◌≡◌, ◌∙◌, sym, ap, subst, refl, ℕ, �
 use Rattle.std.proofs.Common.{append_assoc, length, length-append, arith, inl, inr}
 use Rattle.std.specs.Prelude.{slice_get}
 use Rattle.std.proofs.lemmas.List.{append-nil, map-append}
-use Rattle.rs_mrt.specs.Reader.{ReadEnd}
 use Rattle.rs_mrt.specs.Record.{MrtRecord}
 use Rattle.rs_choice.specs.Plan.{Plan}
 use Rattle.rs_session.specs.Change.{Change}
+use Rattle.rs_session.specs.Stage.{Comes}
 use Rattle.rs_session.specs.declared.peer.PeerId.{PeerId}
 use Rattle.rs_glass.specs.FileSaid.{SaidChange, all_said_by, cause_in, counts_at, moment_of}
 use Rattle.rs_glass.specs.Happened.{AreHappeningsOf, AreWhole, HappeningContent, IsSaidWhole, contents_of, happened_among, happened_in}
@@ -116,13 +116,13 @@ happened_among-more question number (first ∷ later) said =
     ∙ sym (append_assoc (happened_in question number first) (happened_among question (number + 1) later)
     (happened_in question (number + length (first ∷ later)) said))
 
-module _ {R : Type 0} (gives : R → List ℕ → ReadEnd → Type 0) (question : Question) (plan : Plan) (readers : List R) where
+module _ {S : Type 0} (comes : Comes S) (shows : S → Option MrtRecord) (question : Question) (plan : Plan) (sources : List S) where
   -- what happens by the files of so many peers
   pub record AreListed (count : ℕ) (listed : List HappeningContent) : Type 0 where
     pub files : List (List SaidChange)
     pub as_many : length files ≡ count
     pub each : (number : ℕ) (said : List SaidChange) → slice_get files number ≡ Some said
-        → AreWhole gives question plan readers number said
+        → AreWhole comes shows question plan sources number said
     pub says : listed ≡ happened_among question 0 files
 
   pub listed-none : AreListed 0 []
@@ -134,7 +134,7 @@ module _ {R : Type 0} (gives : R → List ℕ → ReadEnd → Type 0) (question 
   }
 
   pub listed-file : (count : ℕ) (said : List SaidChange) (before listed : List HappeningContent) → AreListed count before
-      → AreWhole gives question plan readers count said → listed ≡ before ++ happened_in question count said
+      → AreWhole comes shows question plan sources count said → listed ≡ before ++ happened_in question count said
       → AreListed (count + 1) listed
   listed-file count said before listed so_far whole adds = record {
     files = so_far.files ++ said ∷ [];
@@ -143,8 +143,8 @@ module _ {R : Type 0} (gives : R → List ℕ → ReadEnd → Type 0) (question 
       | inl earlier ↦ so_far.each number one earlier
       | inr last ↦
           let place : count ≡ number = sym (last.0 ∙ so_far.as_many) in
-          subst (λ (n : ℕ). AreWhole gives question plan readers n one) place
-          (subst (AreWhole gives question plan readers count) last.1 whole)
+          subst (λ (n : ℕ). AreWhole comes shows question plan sources n one) place
+          (subst (AreWhole comes shows question plan sources count) last.1 whole)
     ];
     says = adds ∙ ap (λ (all : List HappeningContent). all ++ happened_in question count said) so_far.says
         ∙ ap (λ (n : ℕ). happened_among question 0 so_far.files ++ happened_in question n said)
@@ -153,8 +153,8 @@ module _ {R : Type 0} (gives : R → List ℕ → ReadEnd → Type 0) (question 
   }
 
   -- what happens by the recorded session of a peer is listed at its place
-  pub listed-recorded : (count : ℕ) (one : Recording R) (all : List Happening) (before listed : List HappeningContent)
-      → AreListed count before → IsRecording plan readers count one → AreHappeningsOf gives question one.id one.reader one.peer all
+  pub listed-recorded : (count : ℕ) (one : Recording S) (all : List Happening) (before listed : List HappeningContent)
+      → AreListed count before → IsRecording plan sources count one → AreHappeningsOf comes shows question one.id one.source one.peer all
       → listed ≡ before ++ contents_of all
       → AreListed (count + 1) listed
   listed-recorded count one all before listed so_far is says adds =
@@ -162,9 +162,9 @@ module _ {R : Type 0} (gives : R → List ℕ → ReadEnd → Type 0) (question 
       (record {
         peer = is.peer;
         peer_is = is.peer_is;
-        reader = one.reader;
-        reader_is = is.reader_is;
-        whole = subst (λ (id : PeerId). IsSaidWhole gives question id one.reader says.0) is.id_is says.1;
+        source = one.source;
+        source_is = is.source_is;
+        whole = subst (λ (id : PeerId). IsSaidWhole comes shows question id one.source says.0) is.id_is says.1;
       })
       (adds ∙ ap (λ (more : List HappeningContent). before ++ more)
       (says.2 ∙ ap (λ (n : ℕ). happened_in question n says.0) is.number_is))

@@ -1,13 +1,14 @@
 -- Lists that grow by one at a time, place by place.
-use Rattle.std.proofs.Common.{◌≡◌, ℕ, zero, suc, ◌<◌, ◌+◌, List, [], ◌∷◌, ◌++◌, Some, length, refl, sym, ap, subst, ◌∙◌, arith, inl, inr}
+use Rattle.std.proofs.Common.{◌≡◌, ℕ, zero, suc, ◌<◌, ◌+◌, List, [], ◌∷◌, ◌++◌, Option, Some, length, refl, sym, ap, subst, ◌∙◌, arith, inl, inr}
 use Rattle.std.proofs.Common.{get_or, append_assoc}
 use Rattle.std.proofs.lemmas.List.{append-nil}
 use Rattle.std.proofs.lemmas.Option.{slice_get_within}
 use Rattle.std.specs.Prelude.{◌⊎◌, slice_get}
 use Rattle.std.specs.List.{enumerate_from}
 use Rattle.rs_update.specs.IpPrefix.{IpPrefix}
+use Rattle.rs_mrt.specs.Record.{MrtRecord}
+use Rattle.rs_session.specs.Stage.{Comes}
 use Rattle.rs_choice.specs.Plan.{Peer, Plan}
-use Rattle.rs_mrt.specs.Reader.{ReadEnd}
 use Rattle.rs_table.specs.Content.{TablesContent}
 use Rattle.rs_explain.specs.Explanations.{IsExplanation}
 use Rattle.rs_glass.specs.Behind.{each_behind}
@@ -50,14 +51,14 @@ each_behind-more make before (x ∷ xs) one =
     ∙ sym (append_assoc (make before x) (each_behind make (before ++ x ∷ []) xs) (make ((before ++ x ∷ []) ++ xs) one))
     ∙ ap (λ all. (make before x ++ each_behind make (before ++ x ∷ []) xs) ++ make all one) (append_assoc before (x ∷ []) xs)
 
-module _ {R : Type 0} (gives : R → List ℕ → ReadEnd → Type 0) (question : Question) (plan : Plan) (readers : List R) where
-  -- a fault of one reader is a fault among all
-  pub fault-among : (number : ℕ) (spec : Peer) (reader : R) → slice_get plan.peers number ≡ Some spec
-      → slice_get readers number ≡ Some reader → (fault : GlassFault) → IsFaultOf gives question (id_of spec) reader number fault
-      → IsFaultAmong gives question plan readers fault
-  fault-among number spec reader at_peer at_reader Memory is = tt
-  fault-among number spec reader at_peer at_reader (Read faulty) is =
-      (spec, ap (slice_get plan.peers) is.0 ∙ at_peer, (reader, ap (slice_get readers) is.0 ∙ at_reader, is.1))
+module _ {S : Type 0} (comes : Comes S) (shows : S → Option MrtRecord) (question : Question) (plan : Plan) (sources : List S) where
+  -- a fault of one source is a fault among all
+  pub fault-among : (number : ℕ) (spec : Peer) (source : S) → slice_get plan.peers number ≡ Some spec
+      → slice_get sources number ≡ Some source → (fault : GlassFault) → IsFaultOf comes shows question (id_of spec) source number fault
+      → IsFaultAmong comes shows question plan sources fault
+  fault-among number spec source at_peer at_source Memory is = tt
+  fault-among number spec source at_peer at_source (Read faulty) is =
+      (spec, ap (slice_get plan.peers) is.0 ∙ at_peer, (source, ap (slice_get sources) is.0 ∙ at_source, is.1))
 
 module _ (tables : TablesContent) (client : ℕ) (prefix : IpPrefix) (all : List Said) where
   pub explained-none : (answers : List Answer) → AreExplained tables client prefix all 0 answers

@@ -1,15 +1,12 @@
 -- What happens in the file of one peer, one record after another.
 use Rattle.std.proofs.Common.{◌≡◌, ◌∙◌, ap, subst, refl, ℕ, Bool, true, false, List, [], ◌∷◌, ◌++◌, Option, Some}
 use Rattle.rs_update.specs.declared.errors.Errors.{Errors}
-use Rattle.rs_mrt.specs.Reader.{ReadEnd}
 use Rattle.rs_mrt.specs.Record.{MrtRecord}
-use Rattle.rs_mrt.specs.RecordReading.{MayCome, RecordReading, unread}
 use Rattle.rs_mrt.specs.Source.{SomethingComes}
 use Rattle.rs_mrt.specs.declared.fault.SourceFault.{SourceFault}
 use Rattle.rs_session.specs.Change.{is_read}
 use Rattle.rs_session.specs.Effect.{RecordEffect, PassesOver, Gives, Ends, effect_of}
 use Rattle.rs_session.specs.FileChanges.{changes_by, close_at, ends, reason_at_end}
-use Rattle.rs_session.specs.Laws.{GivesFileOrFails}
 use Rattle.rs_session.specs.Stage.{Comes}
 use Rattle.rs_session.specs.declared.peer.PeerId.{PeerId}
 use Rattle.rs_glass.specs.FileSaid.{SaidChange, all_said_by, closing_at_end, said_of}
@@ -71,42 +68,40 @@ module _ {S : Type 0} (comes : Comes S) (errors : Errors) (peer : PeerId) (old n
 
 -- ---- the whole file
 
-module _ {R : Type 0} (gives : R → List ℕ → ReadEnd → Type 0) (question : Question) (id : PeerId) (reader : R) (peer : ℕ) where
+module _ {S : Type 0} (comes : Comes S) (question : Question) (id : PeerId) (start : S) (peer : ℕ) where
   -- what the records that came say is listed
-  pub record IsListed (reading : RecordReading R) (listing : Listing) : Type 0 where
+  pub record IsListed (source : S) (listing : Listing) : Type 0 where
     pub said : List SaidChange
-    pub has_said : HasSaid question.errors id (MayCome gives) (unread reader) said reading
+    pub has_said : HasSaid question.errors id comes start said source
     pub is_listing : IsListing question peer said listing
 
-  pub listed-nothing : (listing : Listing) → IsListing question peer [] listing → IsListed (unread reader) listing
+  pub listed-nothing : (listing : Listing) → IsListing question peer [] listing → IsListed start listing
   listed-nothing listing is = record {
     said = [];
-    has_said = has_said-none question.errors id (MayCome gives) (unread reader);
+    has_said = has_said-none question.errors id comes start;
     is_listing = is;
   }
 
-  pub listed-record : (old new : RecordReading R) (before after : Listing) → IsListed old before
-      → TakesRecord (MayCome gives) question.errors id old new before after → IsListed new after
+  pub listed-record : (old new : S) (before after : Listing) → IsListed old before
+      → TakesRecord comes question.errors id old new before after → IsListed new after
   listed-record old new before after so_far takes = record {
     said = so_far.said ++ said_of question.errors id takes.next;
-    has_said = has_said-more question.errors id (MayCome gives) (unread reader) so_far.said old new takes.next so_far.has_said
-        takes.come takes.goes_on;
+    has_said = has_said-more question.errors id comes start so_far.said old new takes.next so_far.has_said takes.come takes.goes_on;
     is_listing = takes.lists question peer so_far.said so_far.is_listing;
   }
 
-  module _ (read : GivesFileOrFails gives reader) where
-    pub listed-whole : (old new : RecordReading R) (before after : Listing) → IsListed old before
-        → TakesClose (MayCome gives) question.errors id old new before after
-        → AreHappeningsOf gives question id reader peer after.all.items
+  module _ (shows : S → Option MrtRecord) where
+    pub listed-whole : (old new : S) (before after : Listing) → IsListed old before
+        → TakesClose comes question.errors id old new before after → AreHappeningsOf comes shows question id start peer after.all.items
     listed-whole old new before after so_far takes = (
       so_far.said ++ takes.close ∷ [],
-      said-whole gives question id reader read so_far.said old so_far.has_said takes.records takes.end takes.close takes.reason
-          takes.come takes.says takes.is_close takes.readable,
+      said-whole comes shows question id start so_far.said old so_far.has_said takes.records takes.end takes.close takes.reason takes.come
+          takes.says takes.is_close takes.readable,
       (takes.lists question peer so_far.said so_far.is_listing).lists,
     )
 
-    pub listed-fault : (reading : RecordReading R) (listing : Listing) → IsListed reading listing → (fault : GlassFault)
-        → FailsNext (MayCome gives) reading listing.peer fault → IsFaultOf gives question id reader peer fault
-    listed-fault reading listing so_far Memory fails = tt
-    listed-fault reading listing so_far (Read faulty) fails =
-        (fails.0 ∙ so_far.is_listing.peer_is, said-unread gives question id reader read so_far.said reading so_far.has_said fails.1)
+    pub listed-fault : (source : S) (listing : Listing) → IsListed source listing → (fault : GlassFault)
+        → FailsNext comes source listing.peer fault → IsFaultOf comes shows question id start peer fault
+    listed-fault source listing so_far Memory fails = tt
+    listed-fault source listing so_far (Read faulty) fails =
+        (fails.0 ∙ so_far.is_listing.peer_is, said-unread comes shows question id start so_far.said source so_far.has_said fails.1)

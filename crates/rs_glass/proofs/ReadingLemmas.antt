@@ -7,18 +7,15 @@ use Rattle.std.specs.FinMap.{empty, get}
 use Rattle.std.proofs.lemmas.List.{append-nil}
 use Rattle.std.proofs.lemmas.List.Elements.{filter-append}
 use Rattle.rs_update.specs.IpPrefix.{IpPrefix}
-use Rattle.rs_mrt.specs.Reader.{ReadEnd}
 use Rattle.rs_mrt.specs.Record.{MrtRecord}
 use Rattle.rs_session.specs.Change.{Change, ChangeBody, Announced, Withdrawn, is_close}
 use Rattle.rs_session.specs.Stage.{Comes, Stage}
-use Rattle.rs_session.specs.declared.peer.PeerId.{PeerId}
 use Rattle.rs_table.specs.Laws.{LeftAfterOneMore, LeftByLastChanges, LeftByPart}
 use Rattle.rs_table.specs.Left.{Routes, after, body_prefix, left}
 use Rattle.rs_update.specs.Covering.{covers}
 use Rattle.rs_update.specs.PrefixOrder.{same_prefix}
 use Rattle.rs_session.specs.Concerning.{body_concerns, concerns}
-use Rattle.rs_glass.specs.Recorded.{AreChangesOf, AreTold, IsSaid, IsSaidBefore}
-use Rattle.rs_glass.specs.declared.question.Question.{Question}
+use Rattle.rs_glass.specs.Recorded.{AreTold, IsSaid}
 use Rattle.rs_glass.specs.declared.said.Said.{Said}
 use Rattle.rs_session.proofs.BesideLemmas.{none-part}
 use Rattle.rs_table.proofs.PrefixLemmas.{same_prefix-true}
@@ -44,7 +41,7 @@ module _ (prefix : IpPrefix) where
   body_on_none body none = refl
 
   -- what the changes that concern it leave is what all leave on each prefix that covers it
-  told : (given : List Change) (routes : Routes) (one : Said) → LeftByPart → LeftByLastChanges
+  pub told : (given : List Change) (routes : Routes) (one : Said) → LeftByPart → LeftByLastChanges
       → left (filter (concerns prefix) given) ≡ routes → IsSaid prefix given one → AreTold prefix given routes one
   told given routes one by_part by_last left_is said = record {
     is_said = said;
@@ -86,17 +83,6 @@ module _ (prefix : IpPrefix) where
         ∙ next_left (concerns prefix change) change given before one_more none is.left_is ∙ sym becomes;
     is_said = is_said;
   }
-
-  -- what is said in the end
-  pub taken-said : {R : Type 0} (gives : R → List ℕ → ReadEnd → Type 0) (question : Question) (peer : PeerId) (reader : R)
-      → question.prefix ≡ prefix → (given : List Change) (routes : Routes) (said : Said) → IsTaken given routes said
-      → AreChangesOf gives question peer reader given → LeftByPart → LeftByLastChanges → IsSaidBefore gives question peer reader routes said
-  taken-said gives question peer reader same given routes said is in_time by_part by_last = (
-    given,
-    in_time,
-    subst (λ (one : IpPrefix). AreTold one given routes said) (sym same)
-        (told prefix given routes said by_part by_last is.left_is is.is_said),
-  )
 
 -- how far the reading of a session has come
 pub record IsReading {S : Type 0} (comes : Comes S) (shows : S → Option MrtRecord) (start : Stage S) (prefix : IpPrefix)

@@ -1,9 +1,9 @@
 -- Recordings and what was heard of them, one peer after another.
-use Rattle.std.proofs.Common.{◌≡◌, ◌≢◌, ℕ, ◌<◌, ◌+◌, List, [], ◌∷◌, ◌++◌, Some, length, sym, ap, subst, ◌∙◌, arith, inl, inr}
-use Rattle.std.specs.Prelude.{All, IfOk, IfErr, Result, Ok, Err, slice_get}
-use Rattle.std.proofs.lemmas.List.Elements.{All-get_or}
-use Rattle.std.proofs.lemmas.Option.{get_or_from_slice_get, slice_get_within}
-use Rattle.rs_mrt.specs.Reader.{ReadEnd}
+use Rattle.std.proofs.Common.{◌≡◌, ◌≢◌, ℕ, ◌<◌, ◌+◌, List, [], ◌∷◌, ◌++◌, Option, Some, length, sym, ap, subst, ◌∙◌, arith, inl, inr}
+use Rattle.std.specs.Prelude.{IfOk, IfErr, Result, Ok, Err, slice_get}
+use Rattle.std.proofs.lemmas.Option.{slice_get_within}
+use Rattle.rs_mrt.specs.Record.{MrtRecord}
+use Rattle.rs_session.specs.Stage.{Comes}
 use Rattle.rs_session.specs.declared.peer.PeerId.{PeerId}
 use Rattle.rs_choice.specs.Plan.{Plan}
 use Rattle.rs_table.specs.Content.{RibContent, TablesContent, rib_of}
@@ -18,22 +18,18 @@ use Rattle.rs_glass.specs.declared.question.Question.{Question}
 use Rattle.rs_glass.specs.declared.said.Said.{Said}
 use Rattle.rs_glass.proofs.ListLemmas.{at-pushed, fault-among}
 
--- what holds of each element holds of the one at a place
-pub holds-at : {X : Type 0} (P : X → Type 0) (xs : List X) (n : ℕ) (x : X) → All P xs → slice_get xs n ≡ Some x → P x
-holds-at P xs n x all at = subst P (get_or_from_slice_get xs n x x at) (All-get_or P xs n x (slice_get_within xs n x at) all)
-
-module _ {R : Type 0} (plan : Plan) (readers : List R) where
-  pub recorded-none : AreRecordings plan readers []
+module _ {S : Type 0} (plan : Plan) (sources : List S) where
+  pub recorded-none : AreRecordings plan sources []
   recorded-none number one at = absurd cc
 
   -- one recording more
-  pub recorded-more : (all : List (Recording R)) (one : Recording R) (count : ℕ) → AreRecordings plan readers all → length all ≡ count
-      → IsRecording plan readers count one → AreRecordings plan readers (all ++ one ∷ [])
+  pub recorded-more : (all : List (Recording S)) (one : Recording S) (count : ℕ) → AreRecordings plan sources all → length all ≡ count
+      → IsRecording plan sources count one → AreRecordings plan sources (all ++ one ∷ [])
   recorded-more all one count so_far as_many is number other at =
       elim (at-pushed all one other number at) [
         | inl earlier ↦ so_far number other earlier
-        | inr last ↦ subst (IsRecording plan readers number) last.1
-            (subst (λ (n : ℕ). IsRecording plan readers n one) (sym as_many ∙ sym last.0) is)
+        | inr last ↦ subst (IsRecording plan sources number) last.1
+            (subst (λ (n : ℕ). IsRecording plan sources n one) (sym as_many ∙ sym last.0) is)
       ]
 
 module _ (all : List (Result Heard GlassFault)) where
@@ -73,60 +69,60 @@ module _ (all : List (Result Heard GlassFault)) where
   fault-heard number Memory at = tt
   fault-heard number (Read faulty) at = (number, at)
 
-module _ {R : Type 0} (gives : R → List ℕ → ReadEnd → Type 0) (question : Question) (plan : Plan) (readers : List R) where
-  -- a fault of the reader of a recording is one among all
-  pub fault-recorded : (number : ℕ) (one : Recording R) → IsRecording plan readers number one → (fault : GlassFault)
-      → IsFaultOf gives question one.id one.reader one.peer fault → IsFaultAmong gives question plan readers fault
+module _ {S : Type 0} (comes : Comes S) (shows : S → Option MrtRecord) (question : Question) (plan : Plan) (sources : List S) where
+  -- a fault of the source of a recording is one among all
+  pub fault-recorded : (number : ℕ) (one : Recording S) → IsRecording plan sources number one → (fault : GlassFault)
+      → IsFaultOf comes shows question one.id one.source one.peer fault → IsFaultAmong comes shows question plan sources fault
   fault-recorded number one is fault met =
-      let by_id : IsFaultOf gives question (id_of is.peer) one.reader one.peer fault =
-      subst (λ (id : PeerId). IsFaultOf gives question id one.reader one.peer fault) is.id_is met in
-      let by_place : IsFaultOf gives question (id_of is.peer) one.reader number fault =
-      subst (λ (n : ℕ). IsFaultOf gives question (id_of is.peer) one.reader n fault) is.number_is by_id in
-      fault-among gives question plan readers number is.peer one.reader is.peer_is is.reader_is fault by_place
+      let by_id : IsFaultOf comes shows question (id_of is.peer) one.source one.peer fault =
+      subst (λ (id : PeerId). IsFaultOf comes shows question id one.source one.peer fault) is.id_is met in
+      let by_place : IsFaultOf comes shows question (id_of is.peer) one.source number fault =
+      subst (λ (n : ℕ). IsFaultOf comes shows question (id_of is.peer) one.source n fault) is.number_is by_id in
+      fault-among comes shows question plan sources number is.peer one.source is.peer_is is.source_is fault by_place
 
--- what was heard of a recording: what its session says, or a fault of its reader
-abbrev pub HeardOf : {R : Type 0} → (R → List ℕ → ReadEnd → Type 0) → Question → Recording R → Result Heard GlassFault → Type 0
-HeardOf gives question one (Ok heard) = IsSaidOf gives question one.id one.reader heard.routes heard.said
-HeardOf gives question one (Err fault) = IsFaultOf gives question one.id one.reader one.peer fault
+-- what was heard of a recording: what its session says, or a fault of its source
+abbrev pub HeardOf : {S : Type 0} → Comes S → (S → Option MrtRecord) → Question → Recording S → Result Heard GlassFault → Type 0
+HeardOf comes shows question one (Ok heard) = IsSaidOf comes shows question one.id one.source heard.routes heard.said
+HeardOf comes shows question one (Err fault) = IsFaultOf comes shows question one.id one.source one.peer fault
 
-pub heard-of : {R : Type 0} (gives : R → List ℕ → ReadEnd → Type 0) (question : Question) (one : Recording R) (r : Result Heard GlassFault)
-    → IfOk r (λ heard. IsSaidOf gives question one.id one.reader heard.routes heard.said)
-    → IfErr r (IsFaultOf gives question one.id one.reader one.peer) → HeardOf gives question one r
-heard-of gives question one (Ok heard) says fault = says
-heard-of gives question one (Err met) says fault = fault
+pub heard-of : {S : Type 0} (comes : Comes S) (shows : S → Option MrtRecord) (question : Question) (one : Recording S) (r : Result Heard GlassFault)
+    → IfOk r (λ heard. IsSaidOf comes shows question one.id one.source heard.routes heard.said)
+    → IfErr r (IsFaultOf comes shows question one.id one.source one.peer) → HeardOf comes shows question one r
+heard-of comes shows question one (Ok heard) says fault = says
+heard-of comes shows question one (Err met) says fault = fault
 
-module _ {R : Type 0} (gives : R → List ℕ → ReadEnd → Type 0) (question : Question) (plan : Plan) (readers : List R)
-    (jobs : List (Recording R)) (all : List (Result Heard GlassFault)) where
+module _ {S : Type 0} (comes : Comes S) (shows : S → Option MrtRecord) (question : Question) (plan : Plan) (sources : List S)
+    (jobs : List (Recording S)) (all : List (Result Heard GlassFault)) where
   -- each of these was heard of the recording at its place
   abbrev pub AreHeardOf : Type 0
-  AreHeardOf = (number : ℕ) (r : Result Heard GlassFault) → slice_get all number ≡ Some r → (one : Recording R)
-      × (slice_get jobs number ≡ Some one) × HeardOf gives question one r
+  AreHeardOf = (number : ℕ) (r : Result Heard GlassFault) → slice_get all number ≡ Some r → (one : Recording S)
+      × (slice_get jobs number ≡ Some one) × HeardOf comes shows question one r
 
-  module _ (recorded : AreRecordings plan readers jobs) (heard_of : AreHeardOf) where
+  module _ (recorded : AreRecordings plan sources jobs) (heard_of : AreHeardOf) where
     -- the answers and routes of all peers are those of their recorded sessions
-    pub all-said : (tables : TablesContent) (said : List Said) → length all ≡ length readers → AreHeard all (length all) tables said
-        → AreSaidOf gives question plan readers (length readers) tables said
-    all-said tables said as_many held number below peer at_peer reader at_reader one at_one =
+    pub all-said : (tables : TablesContent) (said : List Said) → length all ≡ length sources → AreHeard all (length all) tables said
+        → AreSaidOf comes shows question plan sources (length sources) tables said
+    all-said tables said as_many held number below peer at_peer source at_source one at_one =
         let is : IsHeard all number tables one = held number (omega (arith, below, as_many)) one at_one in
         let by_recording = heard_of number (Ok is.heard) is.heard_is in
-        let recording : Recording R = by_recording.0 in
-        let recorded_as : IsRecording plan readers number recording = recorded number recording by_recording.1 in
+        let recording : Recording S = by_recording.0 in
+        let recorded_as : IsRecording plan sources number recording = recorded number recording by_recording.1 in
         let same_peer : recorded_as.peer ≡ peer = let e : Some recorded_as.peer ≡ Some peer = sym recorded_as.peer_is ∙ at_peer in cc in
-        let same_reader : recording.reader ≡ reader = let e : Some recording.reader ≡ Some reader = sym recorded_as.reader_is ∙ at_reader in
+        let same_source : recording.source ≡ source = let e : Some recording.source ≡ Some source = sym recorded_as.source_is ∙ at_source in
         cc in
         let same_id : recording.id ≡ id_of peer = recorded_as.id_is ∙ ap id_of same_peer in
-        let by_id : IsSaidOf gives question (id_of peer) recording.reader is.heard.routes is.heard.said =
-        subst (λ (id : PeerId). IsSaidOf gives question id recording.reader is.heard.routes is.heard.said) same_id by_recording.2 in
-        let by_reader : IsSaidOf gives question (id_of peer) reader is.heard.routes is.heard.said =
-        subst (λ (r : R). IsSaidOf gives question (id_of peer) r is.heard.routes is.heard.said) same_reader by_id in
-        let by_routes : IsSaidOf gives question (id_of peer) reader (rib_of tables number).routes is.heard.said =
-        subst (λ (routes : Routes). IsSaidOf gives question (id_of peer) reader routes is.heard.said) (sym is.routes) by_reader in
-        subst (IsSaidOf gives question (id_of peer) reader (rib_of tables number).routes) is.said_is by_routes
+        let by_id : IsSaidOf comes shows question (id_of peer) recording.source is.heard.routes is.heard.said =
+        subst (λ (id : PeerId). IsSaidOf comes shows question id recording.source is.heard.routes is.heard.said) same_id by_recording.2 in
+        let by_source : IsSaidOf comes shows question (id_of peer) source is.heard.routes is.heard.said =
+        subst (λ (r : S). IsSaidOf comes shows question (id_of peer) r is.heard.routes is.heard.said) same_source by_id in
+        let by_routes : IsSaidOf comes shows question (id_of peer) source (rib_of tables number).routes is.heard.said =
+        subst (λ (routes : Routes). IsSaidOf comes shows question (id_of peer) source routes is.heard.said) (sym is.routes) by_source in
+        subst (IsSaidOf comes shows question (id_of peer) source (rib_of tables number).routes) is.said_is by_routes
 
-    -- and a fault that was met is one of a reader
-    pub fault-met : (fault : GlassFault) → IsFaultHeard all fault → IsFaultAmong gives question plan readers fault
+    -- and a fault that was met is one of a source
+    pub fault-met : (fault : GlassFault) → IsFaultHeard all fault → IsFaultAmong comes shows question plan sources fault
     fault-met Memory met = tt
     fault-met (Read faulty) met =
         let by_recording = heard_of met.0 (Err (Read faulty)) met.1 in
-        fault-recorded gives question plan readers met.0 by_recording.0 (recorded met.0 by_recording.0 by_recording.1) (Read faulty)
+        fault-recorded comes shows question plan sources met.0 by_recording.0 (recorded met.0 by_recording.0 by_recording.1) (Read faulty)
         by_recording.2

@@ -7,12 +7,11 @@ use Rattle.std.specs.List.Sorted.{IsPermutation, IsSortedByKey, IsStableByKey}
 use Rattle.std.specs.Ordering.{nat_cmp}
 use Rattle.rs_update.specs.IpPrefix.{IpPrefix}
 use Rattle.rs_update.specs.PrefixOrder.{same_prefix}
-use Rattle.rs_mrt.specs.Reader.{ReadEnd}
 use Rattle.rs_mrt.specs.Record.{MrtRecord}
-use Rattle.rs_mrt.specs.RecordReading.{MayCome, unread}
 use Rattle.rs_mrt.specs.declared.fault.SourceFault.{SourceFault}
 use Rattle.rs_session.specs.declared.peer.PeerId.{PeerId}
 use Rattle.rs_session.specs.Change.{Change, ChangeBody, Announced, Withdrawn, Lost, Closed, change_of}
+use Rattle.rs_session.specs.Stage.{Comes}
 use Rattle.rs_choice.specs.Plan.{Peer, Plan}
 use Rattle.rs_glass.specs.Behind.{each_behind}
 use Rattle.rs_glass.specs.FileSaid.{SaidChange, cause_in, counts_at, said_in}
@@ -69,46 +68,42 @@ happened_among question number [] = []
 happened_among question number (said ∷ later) =
     happened_in question number said ++ happened_among question (number + 1) later
 
--- All changes of a peer's recorded session, each with its record. No read failed: the reader may give these records.
-pub record IsSaidWhole {R : Type 0} (gives : R → List ℕ → ReadEnd → Type 0) (question : Question) (peer : PeerId)
-    (reader : R) (said : List SaidChange) : Type 0 where
-  pub records : List MrtRecord
-  pub end : Option SourceFault
-  pub come : MayCome gives (unread reader) records end
-  pub said_is : said ≡ said_in question.errors peer records end
-  pub says : AreChangesOf gives question peer reader (map (λ one. one.change) said)
-  pub unfailed : is_failed_read (close_in (map (λ one. one.change) said)) ≡ false
-
--- all changes of the peer that has this number, each with its record
-pub record AreWhole {R : Type 0} (gives : R → List ℕ → ReadEnd → Type 0) (question : Question) (plan : Plan)
-    (readers : List R) (number : ℕ) (said : List SaidChange) : Type 0 where
-  pub peer : Peer
-  pub peer_is : slice_get plan.peers number ≡ Some peer
-  pub reader : R
-  pub reader_is : slice_get readers number ≡ Some reader
-  pub whole : IsSaidWhole gives question (id_of peer) reader said
-
--- what happens in the recorded file of a peer, if no read failed
-abbrev pub AreHappeningsOf : {R : Type 0} → (R → List ℕ → ReadEnd → Type 0) → Question → PeerId → R → ℕ
-    → List Happening → Type 0
-AreHappeningsOf gives question peer reader number all =
-    (said : List SaidChange) × IsSaidWhole gives question peer reader said
-    × (contents_of all ≡ happened_in question number said)
-
 -- the moment by which things that happened are ordered, in microseconds since 1970
 abbrev pub ordered_by : Happening → ℕ
 ordered_by one = in_microseconds (happened_at one)
 
--- What happened on the prefix in the recorded files of all peers, in the order of time. Things of one moment stay in
--- the order of the peers, and those of one peer in the order of its file.
-pub record AreHappenings {R : Type 0} (gives : R → List ℕ → ReadEnd → Type 0) (question : Question) (plan : Plan)
-    (readers : List R) (all : List Happening) : Type 0 where
-  pub files : List (List SaidChange)
-  pub as_many : length files ≡ length readers
-  pub each : (number : ℕ) (said : List SaidChange) → slice_get files number ≡ Some said
-      → AreWhole gives question plan readers number said
-  pub unsorted : List Happening
-  pub says : contents_of unsorted ≡ happened_among question 0 files
-  pub permutation : IsPermutation unsorted all
-  pub sorted : IsSortedByKey (λ one. ordered_by one) nat_cmp all
-  pub stable : IsStableByKey (λ one. ordered_by one) nat_cmp unsorted all
+module _ {S : Type 0} (comes : Comes S) (shows : S → Option MrtRecord) (question : Question) where
+  -- All changes of a peer's recorded session, each with its record. No read failed: these records may come.
+  pub record IsSaidWhole (peer : PeerId) (source : S) (said : List SaidChange) : Type 0 where
+    pub records : List MrtRecord
+    pub end : Option SourceFault
+    pub come : comes source records end
+    pub said_is : said ≡ said_in question.errors peer records end
+    pub says : AreChangesOf comes shows question peer source (map (λ one. one.change) said)
+    pub unfailed : is_failed_read (close_in (map (λ one. one.change) said)) ≡ false
+
+  -- all changes of the peer that has this number, each with its record
+  pub record AreWhole (plan : Plan) (sources : List S) (number : ℕ) (said : List SaidChange) : Type 0 where
+    pub peer : Peer
+    pub peer_is : slice_get plan.peers number ≡ Some peer
+    pub source : S
+    pub source_is : slice_get sources number ≡ Some source
+    pub whole : IsSaidWhole (id_of peer) source said
+
+  -- what happens in the recorded session of a peer, if no read failed
+  abbrev pub AreHappeningsOf : PeerId → S → ℕ → List Happening → Type 0
+  AreHappeningsOf peer source number all =
+      (said : List SaidChange) × IsSaidWhole peer source said × (contents_of all ≡ happened_in question number said)
+
+  -- What happened on the prefix in the recorded sessions of all peers, in the order of time. Things of one moment stay
+  -- in the order of the peers, and those of one peer in the order of its records.
+  pub record AreHappenings (plan : Plan) (sources : List S) (all : List Happening) : Type 0 where
+    pub files : List (List SaidChange)
+    pub as_many : length files ≡ length sources
+    pub each : (number : ℕ) (said : List SaidChange) → slice_get files number ≡ Some said
+        → AreWhole plan sources number said
+    pub unsorted : List Happening
+    pub says : contents_of unsorted ≡ happened_among question 0 files
+    pub permutation : IsPermutation unsorted all
+    pub sorted : IsSortedByKey (λ one. ordered_by one) nat_cmp all
+    pub stable : IsStableByKey (λ one. ordered_by one) nat_cmp unsorted all

@@ -10,16 +10,16 @@ use Rattle.rs_glass.specs.declared.recording.Recording.{Recording}
 use Rattle.rs_glass.specs.declared.said.Said.{Said}
 
 -- the recorded session of the peer that has this number
-pub record IsRecording {R : Type 0} (plan : Plan) (readers : List R) (number : ℕ) (one : Recording R) : Type 0 where
+pub record IsRecording {S : Type 0} (plan : Plan) (sources : List S) (number : ℕ) (one : Recording S) : Type 0 where
   pub number_is : one.peer ≡ number
   pub peer : Peer
   pub peer_is : slice_get plan.peers number ≡ Some peer
   pub id_is : one.id ≡ id_of peer
-  pub reader_is : slice_get readers number ≡ Some one.reader
+  pub source_is : slice_get sources number ≡ Some one.source
 
-abbrev pub AreRecordings : {R : Type 0} → Plan → List R → List (Recording R) → Type 0
-AreRecordings {R} plan readers all =
-    (number : ℕ) (one : Recording R) → slice_get all number ≡ Some one → IsRecording plan readers number one
+abbrev pub AreRecordings : {S : Type 0} → Plan → List S → List (Recording S) → Type 0
+AreRecordings {S} plan sources all =
+    (number : ℕ) (one : Recording S) → slice_get all number ≡ Some one → IsRecording plan sources number one
 
 -- the tables have the routes that were read of this peer, and the answer is what was read of it
 pub record IsHeard (all : List (Result Heard GlassFault)) (number : ℕ) (tables : TablesContent) (said : Said)

@@ -7,10 +7,11 @@ use Rattle.std.specs.Option.{option_and_then, option_map_or}
 use Rattle.rs_update.specs.Covering.{covers}
 use Rattle.rs_update.specs.IpPrefix.{IpPrefix}
 use Rattle.rs_mrt.specs.Fault.{number_of}
-use Rattle.rs_mrt.specs.Reader.{ReadEnd}
+use Rattle.rs_mrt.specs.Record.{MrtRecord}
 use Rattle.rs_mrt.specs.declared.fault.MrtFault.TheVariants.{HeaderCutShort, BodyCutShort}
 use Rattle.rs_session.specs.Change.{Change, ChangeBody, Announced, Withdrawn, Lost, Closed, is_read, is_close}
-use Rattle.rs_session.specs.Given.{IsRead}
+use Rattle.rs_session.specs.Stage.{Comes}
+use Rattle.rs_session.specs.Told.{MayTell}
 use Rattle.rs_session.specs.declared.peer.PeerId.{PeerId}
 use Rattle.rs_change.specs.declared.word.Reason.{Reason}
 use Rattle.rs_change.specs.declared.word.Reason.TheVariants as reasons
@@ -26,13 +27,6 @@ use Rattle.rs_glass.specs.declared.fault.GlassFault.{GlassFault}
 use Rattle.rs_glass.specs.declared.fault.GlassFault.TheVariants.{Memory, Read}
 use Rattle.rs_glass.specs.declared.question.Question.{Question}
 use Rattle.rs_glass.specs.declared.said.Said.{Said}
-
--- All changes of a peer's session by what its reader gives: those of a file that the reader may give. Or those
--- before a failed read, with the close that says so.
-pub record AreChangesOf {R : Type 0} (gives : R → List ℕ → ReadEnd → Type 0) (question : Question) (peer : PeerId)
-    (reader : R) (changes : List Change) : Type 0 where
-  pub passed : ℕ
-  pub says : IsRead gives question.errors peer reader changes passed
 
 -- why a session with these changes closed: the reason of the last close among them, if there is one
 abbrev pub body_reason : ChangeBody → Option Reason
@@ -83,50 +77,48 @@ pub record AreTold (prefix : IpPrefix) (changes : List Change) (routes : Routes)
   pub left_on : (wide : IpPrefix) → covers wide prefix ≡ true → (route : RouteLeft)
       → Leaves changes wide route ↔ (get routes wide ≡ Some route)
 
--- the answer for the prefix that is asked for by the recorded session of a peer, or by its changes before a failed
--- read
-abbrev pub IsSaidBefore : {R : Type 0} → (R → List ℕ → ReadEnd → Type 0) → Question → PeerId → R → Routes → Said
-    → Type 0
-IsSaidBefore gives question peer reader routes said =
-    (changes : List Change) × AreChangesOf gives question peer reader changes
-    × AreTold question.prefix changes routes said
-
--- the answer for the prefix that is asked for by the recorded session of a peer, if no read failed
-abbrev pub IsSaidOf : {R : Type 0} → (R → List ℕ → ReadEnd → Type 0) → Question → PeerId → R → Routes → Said
-    → Type 0
-IsSaidOf gives question peer reader routes said =
-    IsSaidBefore gives question peer reader routes said × (is_failed_read said.close ≡ false)
-
--- the recorded session of a peer closes because of a failed read
-abbrev pub ClosesUnread : {R : Type 0} → (R → List ℕ → ReadEnd → Type 0) → Question → PeerId → R → Type 0
-ClosesUnread gives question peer reader =
-    (changes : List Change) × AreChangesOf gives question peer reader changes
-    × (is_failed_read (close_in changes) ≡ true)
-
--- a fault of a peer's reader: a read failed, or memory was refused
-abbrev pub IsFaultOf : {R : Type 0} → (R → List ℕ → ReadEnd → Type 0) → Question → PeerId → R → ℕ → GlassFault
-    → Type 0
-IsFaultOf gives question peer reader number Memory = Unit {0}
-IsFaultOf gives question peer reader number (Read faulty) =
-    (faulty ≡ number) × ClosesUnread gives question peer reader
-
 -- the address and the AS number by which a recording identifies a peer
 abbrev pub id_of : Peer → PeerId
 id_of peer = record { address = peer.address; asn = peer.asn }
 
--- the answers for the peers below a number, and their routes in the tables, each by the peer's own recorded session
-abbrev pub AreSaidOf : {R : Type 0} → (R → List ℕ → ReadEnd → Type 0) → Question → Plan → List R → ℕ
-    → TablesContent → List Said → Type 0
-AreSaidOf {R} gives question plan readers count tables all =
-    (number : ℕ) → number < count → (peer : Peer) → slice_get plan.peers number ≡ Some peer → (reader : R)
-    → slice_get readers number ≡ Some reader
-    → (said : Said) → slice_get all number ≡ Some said
-    → IsSaidOf gives question (id_of peer) reader (rib_of tables number).routes said
+module _ {S : Type 0} (comes : Comes S) (shows : S → Option MrtRecord) (question : Question) where
+  -- All changes that a peer's session over its source may tell. If a read fails, they are those before it, and the
+  -- close that says so.
+  pub record AreChangesOf (peer : PeerId) (source : S) (changes : List Change) : Type 0 where
+    pub passed : ℕ
+    pub says : MayTell comes shows question.errors peer source (record { changes = changes; passed = passed })
 
--- a fault of the readers: a read of the named peer's file failed, or memory was refused
-abbrev pub IsFaultAmong : {R : Type 0} → (R → List ℕ → ReadEnd → Type 0) → Question → Plan → List R → GlassFault
-    → Type 0
-IsFaultAmong gives question plan readers Memory = Unit {0}
-IsFaultAmong {R} gives question plan readers (Read faulty) =
-    (peer : Peer) × (slice_get plan.peers faulty ≡ Some peer) × ((reader : R)
-    × (slice_get readers faulty ≡ Some reader) × ClosesUnread gives question (id_of peer) reader)
+  -- the answer for the prefix that is asked for by the recorded session of a peer, or by its changes before a failed
+  -- read
+  abbrev pub IsSaidBefore : PeerId → S → Routes → Said → Type 0
+  IsSaidBefore peer source routes said =
+      (changes : List Change) × AreChangesOf peer source changes × AreTold question.prefix changes routes said
+
+  -- the answer for the prefix that is asked for by the recorded session of a peer, if no read failed
+  abbrev pub IsSaidOf : PeerId → S → Routes → Said → Type 0
+  IsSaidOf peer source routes said =
+      IsSaidBefore peer source routes said × (is_failed_read said.close ≡ false)
+
+  -- the recorded session of a peer closes because of a failed read
+  abbrev pub ClosesUnread : PeerId → S → Type 0
+  ClosesUnread peer source =
+      (changes : List Change) × AreChangesOf peer source changes × (is_failed_read (close_in changes) ≡ true)
+
+  -- a fault of a peer's source: a read failed, or memory was refused
+  abbrev pub IsFaultOf : PeerId → S → ℕ → GlassFault → Type 0
+  IsFaultOf peer source number Memory = Unit {0}
+  IsFaultOf peer source number (Read faulty) = (faulty ≡ number) × ClosesUnread peer source
+
+  -- the answers for the peers below a number, and their routes in the tables, each by the peer's own recorded session
+  abbrev pub AreSaidOf : Plan → List S → ℕ → TablesContent → List Said → Type 0
+  AreSaidOf plan sources count tables all =
+      (number : ℕ) → number < count → (peer : Peer) → slice_get plan.peers number ≡ Some peer → (source : S)
+      → slice_get sources number ≡ Some source → (said : Said) → slice_get all number ≡ Some said
+      → IsSaidOf (id_of peer) source (rib_of tables number).routes said
+
+  -- a fault of the sources: a read of the named peer's records failed, or memory was refused
+  abbrev pub IsFaultAmong : Plan → List S → GlassFault → Type 0
+  IsFaultAmong plan sources Memory = Unit {0}
+  IsFaultAmong plan sources (Read faulty) =
+      (peer : Peer) × (slice_get plan.peers faulty ≡ Some peer) × ((source : S)
+      × (slice_get sources faulty ≡ Some source) × ClosesUnread (id_of peer) source)

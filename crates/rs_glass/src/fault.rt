@@ -12,7 +12,7 @@ pub enum GlassFault {
     /// Memory was refused.
     #[error("memory was refused while recorded files were read")]
     Memory,
-    /// The recorded file of the peer of this number can't be read to its end, or has 2^50 octets or more.
+    /// The records of the peer of this number can't be read to their end: its source answers that a read failed.
     #[error("the recorded file of peer {0} cannot be read")]
     Read(usize),
 }

@@ -1,8 +1,8 @@
 //! What happened on a prefix: the changes on it and the losses and closes of all peers, in the order of time.
 //!
-//! Each peer's file is read on a thread of its own, if the system grants one.
+//! Each peer's recording is read on a thread of its own, if the system grants one.
 
-ghost use Rattle.std.specs.Prelude.{◌≡◌, ◌+◌, ◌<◌, ◌≤◌, true, All, IfErr, IfOk, length};
+ghost use Rattle.std.specs.Prelude.{◌≡◌, ◌+◌, ◌≤◌, true, IfErr, IfOk, length};
 ghost use Rattle.rs_glass.specs.Happened.{AreHappenings, AreHappeningsOf, happened_at};
 ghost use Rattle.rs_glass.specs.Listed.{FailsNext, TakesNext};
 ghost use Rattle.rs_glass.specs.Recorded.{IsFaultAmong, IsFaultOf};
@@ -14,8 +14,8 @@ use crate::moment::Moment;
 use crate::question::Question;
 use crate::recording::{Recording, recordings};
 use rs_choice::Exchange;
-use rs_mrt::{Read, RecordReader, Source, SourceFault};
-use rs_session::{PeerId, Reason, Word, a_reader_gives_a_file_or_fails};
+use rs_mrt::{Source, SourceFault};
+use rs_session::{PeerId, Reason, Word};
 use rs_update::Errors;
 use std::alloc::Global;
 use std::thread;
@@ -26,8 +26,8 @@ use std::thread::Threads;
 pub struct Happening {
     /// The number of the peer.
     pub peer: usize,
-    /// When it counts, in seconds since 1970: at its own time, but no earlier than anything before it in its file. A
-    /// close at the end of a file has no time of its own, and counts at the latest time before it.
+    /// When it counts, in seconds since 1970: at its own time, but no earlier than anything before it in its recording.
+    /// A close at the end of a recording has no time of its own, and counts at the latest time before it.
     pub time: u32,
     /// The microseconds of that time, if they are known.
     pub microseconds: Option<u32>,
@@ -50,24 +50,25 @@ impl Happening {
 }
 
 /// What happened on the prefix, of all peers, in the order of time, to the microsecond if that is known. Things of
-/// one moment come in the order of the peers, and those of one peer in the order of the file. `readers` gives the
-/// recorded file of each peer.
+/// one moment come in the order of the peers, and those of one peer in the order of its records. `sources` has one
+/// source for each peer, in the order of the peers. It gives the MRT records of the peer's recording one after another,
+/// and then the end or a fault.
 ///
-/// Fails if memory is refused, or if a session closes because its file can't be read.
-pub fn read_happenings<T: Threads + Sync, R: Read + Send + Drop>(
+/// Fails if memory is refused, or if a session closes because its records can't be read: its source answers that a read
+/// failed.
+pub fn read_happenings<T: Threads + Sync, S: Source + Send + Drop>(
     rt: &T,
     alloc: Global,
     plan: &Exchange,
-    readers: Vec<R>,
+    sources: Vec<S>,
     question: &Question,
 ) -> Result<Vec<Happening>, GlassFault>
-    requires one_for_each { length readers.items ≡ length plan.now.peers }
-    requires reader_failures { All (λ reader. R.failures reader < u64.MAX) readers.items }
+    requires one_for_each { length sources.items ≡ length plan.now.peers }
     ensures happenings { IfOk result (λ all.
-        AreHappenings R.gives question.now plan.now readers.items all.items) }
-    ensures fault { IfErr result (IsFaultAmong R.gives question.now plan.now readers.items) }
+        AreHappenings S.comes S.shows question.now plan.now sources.items all.items) }
+    ensures fault { IfErr result (IsFaultAmong S.comes S.shows question.now plan.now sources.items) }
 {
-    let jobs = recordings(alloc, plan, readers)?;
+    let jobs = recordings(alloc, plan, sources)?;
     let lists = thread::map_vec(
         rt,
         jobs,
@@ -82,26 +83,28 @@ pub fn read_happenings<T: Threads + Sync, R: Read + Send + Drop>(
     Ok(all)
 }
 
-// What happened in the recorded file of a peer, in the order of the file.
-fn happenings_of<R: Read + Drop>(
+// What happened in the recorded session of a peer, in the order of its records.
+fn happenings_of<S: Source + Drop>(
     alloc: Global,
-    recording: Recording<R>,
+    recording: Recording<S>,
     question: &Question,
 ) -> Result<Vec<Happening>, GlassFault>
-    requires { R.failures recording.reader < u64.MAX }
     ensures happenings { IfOk result (λ all.
-        AreHappeningsOf R.gives question.now recording.id recording.reader recording.peer all.items) }
-    ensures fault { IfErr result (IsFaultOf R.gives question.now recording.id recording.reader recording.peer) }
+        AreHappeningsOf S.comes S.shows question.now recording.id recording.source recording.peer all.items) }
+    ensures fault { IfErr result
+        (IsFaultOf S.comes S.shows question.now recording.id recording.source recording.peer) }
 {
-    let Recording { peer, id, reader } = recording;
-    a_reader_gives_a_file_or_fails::<R>();
-    let mut records = RecordReader::new(reader);
+    let Recording {
+        peer,
+        id,
+        mut source,
+    } = recording;
     let mut listing = Listing::of_nothing(alloc, peer, *question);
-    while take_next(alloc, &mut listing, &mut records, id, question.errors)? {}
+    while take_next(alloc, &mut listing, &mut source, id, question.errors)? {}
     Ok(listing.all)
 }
 
-// Takes what the next record says, or the close at the end of the file. Answers whether the session goes on.
+// Takes what the next record says, or the close at the end of the records. Answers whether the session goes on.
 fn take_next<S: Source>(
     alloc: Global,
     listing: &mut Listing,

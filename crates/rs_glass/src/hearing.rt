@@ -1,6 +1,6 @@
 //! What the recorded session of one peer says of a prefix.
 
-ghost use Rattle.std.specs.Prelude.{◌≡◌, ◌<◌, IfErr, IfOk, OnOk, if◌then◌else◌, true};
+ghost use Rattle.std.specs.Prelude.{◌≡◌, IfErr, IfOk, OnOk, if◌then◌else◌, true};
 ghost use Rattle.rs_session.specs.Change.{change_of};
 ghost use Rattle.rs_session.specs.Concerning.{concerns};
 ghost use Rattle.rs_table.specs.Left.{after};
@@ -16,8 +16,8 @@ use crate::question::Question;
 use crate::recording::Recording;
 use crate::routes_left::RoutesLeft;
 use crate::said::{Said, is_failed_read};
-use rs_mrt::{Read, RecordReader};
-use rs_session::{PeerId, Session, Word, a_reader_gives_a_file_or_fails};
+use rs_mrt::Source;
+use rs_session::{PeerId, Session, Word};
 use rs_table::{left_after_one_more, left_by_last_changes, left_by_part};
 use rs_update::{Prefix, a_prefix_covers_itself};
 use std::alloc::{AllocError, Global};
@@ -32,18 +32,18 @@ pub(crate) struct Heard {
 }
 
 // Reads the recorded session of a peer.
-pub(crate) fn hear<R: Read + Drop>(
+pub(crate) fn hear<S: Source + Drop>(
     alloc: Global,
-    recording: Recording<R>,
+    recording: Recording<S>,
     question: &Question,
 ) -> Result<Heard, GlassFault>
-    requires failures { R.failures recording.reader < u64.MAX }
     ensures says { IfOk result (λ heard.
-        IsSaidOf R.gives question.now recording.id recording.reader heard.routes heard.said) }
-    ensures fault { IfErr result (IsFaultOf R.gives question.now recording.id recording.reader recording.peer) }
+        IsSaidOf S.comes S.shows question.now recording.id recording.source heard.routes heard.said) }
+    ensures fault { IfErr result
+        (IsFaultOf S.comes S.shows question.now recording.id recording.source recording.peer) }
 {
-    let Recording { peer, id, reader } = recording;
-    let heard = hear_changes(alloc, id, reader, question)?;
+    let Recording { peer, id, source } = recording;
+    let heard = hear_changes(alloc, id, source, question)?;
     if is_failed_read(heard.said.close) {
         return Err(GlassFault::Read(peer));
     }
@@ -53,21 +53,20 @@ pub(crate) fn hear<R: Read + Drop>(
 // Reads the recorded session of a peer; a failed read is then the reason of the close. Changes that don't concern
 // the prefix are passed over. They change neither the answer for the prefix nor the routes on prefixes that cover
 // it.
-fn hear_changes<R: Read + Drop>(
+fn hear_changes<S: Source + Drop>(
     alloc: Global,
     id: PeerId,
-    reader: R,
+    source: S,
     question: &Question,
 ) -> Result<Heard, AllocError>
-    requires failures { R.failures reader < u64.MAX }
-    ensures { IfOk result (λ heard. IsSaidBefore R.gives question.now id reader heard.routes heard.said) }
+    ensures { IfOk result (λ heard.
+        IsSaidBefore S.comes S.shows question.now id source heard.routes heard.said) }
 {
-    a_reader_gives_a_file_or_fails::<R>();
     left_after_one_more();
     left_by_part();
     left_by_last_changes();
     a_prefix_covers_itself(question.prefix);
-    let mut session = Session::over_by(alloc, RecordReader::new(reader), id, question.errors);
+    let mut session = Session::over_by(alloc, source, id, question.errors);
     let mut said = Said::nothing();
     let mut routes = RoutesLeft::none(alloc);
     while let Some(word) = session.next_word_on(question.prefix, None)? {
@@ -79,14 +78,14 @@ fn hear_changes<R: Read + Drop>(
 }
 
 // Why the change came that a session gave last, if it is one on the prefix. No message is read again for the others.
-fn cause_shown<R: Read>(
+fn cause_shown<S: Source>(
     alloc: Global,
-    session: &Session<RecordReader<R>>,
+    session: &Session<S>,
     question: &Question,
     word: &Word,
 ) -> Result<Option<Cause>, AllocError>
     ensures { IfOk result (λ cause. happens_on question.now.prefix (change_of word.now) ≡ true
-        → cause ≡ cause_behind question.now.errors session.now.source.shown (change_of word.now)) }
+        → cause ≡ cause_behind question.now.errors (S.shows session.now.source) (change_of word.now)) }
 {
     if !happens_on(word, question.prefix) {
         return Ok(None);

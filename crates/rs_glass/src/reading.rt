@@ -2,7 +2,7 @@
 //!
 //! Each session is read on a thread of its own, if the system grants one.
 
-ghost use Rattle.std.specs.Prelude.{◌≡◌, ◌<◌, All, IfErr, IfOk, length};
+ghost use Rattle.std.specs.Prelude.{◌≡◌, IfErr, IfOk, length};
 ghost use Rattle.rs_glass.specs.Heard.{AreHeard, IsFaultHeard};
 ghost use Rattle.rs_glass.specs.Recorded.{AreSaidOf, IsFaultAmong};
 
@@ -12,7 +12,7 @@ use crate::question::Question;
 use crate::recording::recordings;
 use crate::said::Said;
 use rs_choice::Exchange;
-use rs_mrt::Read;
+use rs_mrt::Source;
 use rs_table::Tables;
 use std::alloc::Global;
 use std::sync::Arc;
@@ -28,25 +28,26 @@ pub struct Reading {
     pub said: Vec<Said>,
 }
 
-/// Reads the recorded session of each peer: `readers` gives its file, in the order of the peers.
+/// Reads the recorded session of each peer. `sources` has one source for each, in the order of the peers. It gives the
+/// MRT records of the peer's recording one after another, and then the end or a fault.
 ///
-/// Fails if memory is refused, or if a session closes because its file can't be read.
-pub fn read_sessions<T: Threads + Sync, R: Read + Send + Drop>(
+/// Fails if memory is refused, or if a session closes because its records can't be read: its source answers that a read
+/// failed.
+pub fn read_sessions<T: Threads + Sync, S: Source + Send + Drop>(
     rt: &T,
     alloc: Global,
     plan: &Arc<Exchange>,
-    readers: Vec<R>,
+    sources: Vec<S>,
     question: &Question,
 ) -> Result<Reading, GlassFault>
-    requires one_for_each { length readers.items ≡ length plan.now.value.peers }
-    requires reader_failures { All (λ reader. R.failures reader < u64.MAX) readers.items }
+    requires one_for_each { length sources.items ≡ length plan.now.value.peers }
     ensures plan { IfOk result (λ reading. reading.tables.plan ≡ plan.now.value) }
     ensures as_many { IfOk result (λ reading. length reading.said.items ≡ length plan.now.value.peers) }
-    ensures says { IfOk result (λ reading. AreSaidOf R.gives question.now plan.now.value readers.items
-        (length readers.items) reading.tables reading.said.items) }
-    ensures fault { IfErr result (IsFaultAmong R.gives question.now plan.now.value readers.items) }
+    ensures says { IfOk result (λ reading. AreSaidOf S.comes S.shows question.now plan.now.value sources.items
+        (length sources.items) reading.tables reading.said.items) }
+    ensures fault { IfErr result (IsFaultAmong S.comes S.shows question.now plan.now.value sources.items) }
 {
-    let all = recordings(alloc, plan, readers)?;
+    let all = recordings(alloc, plan, sources)?;
     let heard = thread::map_vec(rt, all, &|recording| hear(alloc, recording, question))?;
     gather(alloc, plan, heard)
 }

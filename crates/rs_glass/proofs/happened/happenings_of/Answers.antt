@@ -5,24 +5,24 @@ use Rattle.rs_glass.proofs.happened.happenings_of.Goals as goal
 
 pub loop-listing-init : goal.loop-listing-init
 loop-listing-init g c =
-    rw c.new-records.ensures (listed-nothing g.R.Read.gives c.args.question.now c.args.recording.id c.args.recording.reader
-    c.args.recording.peer c.of_nothing-listing.result c.of_nothing-listing.ensures)
+    listed-nothing g.S.Source.comes c.args.question.now c.args.recording.id c.args.recording.source c.args.recording.peer
+    c.of_nothing-listing.result c.of_nothing-listing.ensures
 
 pub loop-listing-preserved : goal.loop-listing-preserved
 loop-listing-preserved g c =
-    listed-record g.R.Read.gives c.args.question.now c.args.recording.id c.args.recording.reader c.args.recording.peer
-    c.loop-listing.records c.take_next.new.source c.loop-listing.listing c.take_next.new.listing c.loop-listing.invariant
+    listed-record g.S.Source.comes c.args.question.now c.args.recording.id c.args.recording.source c.args.recording.peer
+    c.loop-listing.source c.take_next.new.source c.loop-listing.listing c.take_next.new.listing c.loop-listing.invariant
     (rw c.if-branch.true at c.in_ok-take_next.ensures.takes)
 
 pub returns-clause-happenings : goal.returns-clause-happenings
 returns-clause-happenings g c =
-    listed-whole g.R.Read.gives c.args.question.now c.args.recording.id c.args.recording.reader c.args.recording.peer
-    (c.a_reader_gives_a_file_or_fails.ensures c.args.recording.reader) c.loop-listing.records c.take_next.new.source c.loop-listing.listing
-    c.take_next.new.listing c.loop-listing.invariant (rw c.if-branch.false at c.in_ok-take_next.ensures.takes)
+    listed-whole g.S.Source.comes c.args.question.now c.args.recording.id c.args.recording.source c.args.recording.peer g.S.Source.shows
+    c.loop-listing.source c.take_next.new.source c.loop-listing.listing c.take_next.new.listing c.loop-listing.invariant
+    (rw c.if-branch.false at c.in_ok-take_next.ensures.takes)
 
 pub returns-in_err-take_next-clause-fault : goal.returns-in_err-take_next-clause-fault
 returns-in_err-take_next-clause-fault g c =
     let p = err_from_is_err_and c.from_residual.result c.from_residual.ensures.1 in
-    rw (p.1, p.2) (listed-fault g.R.Read.gives c.args.question.now c.args.recording.id c.args.recording.reader c.args.recording.peer
-    (c.a_reader_gives_a_file_or_fails.ensures c.args.recording.reader) c.loop-listing.records c.loop-listing.listing c.loop-listing.invariant
-    c.in_err-take_next.field-0.0 c.in_err-take_next.ensures.fault)
+    rw (p.1, p.2) (listed-fault g.S.Source.comes c.args.question.now c.args.recording.id c.args.recording.source c.args.recording.peer
+    g.S.Source.shows c.loop-listing.source c.loop-listing.listing c.loop-listing.invariant c.in_err-take_next.field-0.0
+    c.in_err-take_next.ensures.fault)

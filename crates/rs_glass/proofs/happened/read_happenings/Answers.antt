@@ -14,7 +14,8 @@ use Rattle.rs_glass.proofs.RecordingLemmas.{fault-recorded}
 use Rattle.rs_glass.proofs.happened.read_happenings.Goals as goal
 
 pub loop-list-init : goal.loop-list-init
-loop-list-init g c = rw c.new-all.ensures.items (listed-none g.R.Read.gives c.args.question.now c.args.plan.now c.args.readers.items)
+loop-list-init g c =
+    rw c.new-all.ensures.items (listed-none g.S.Source.comes g.S.Source.shows c.args.question.now c.args.plan.now c.args.sources.items)
 
 pub loop-list-preserved : goal.loop-list-preserved
 loop-list-preserved g c =
@@ -29,15 +30,15 @@ loop-list-preserved g c =
     let below : count < length jobs = omega (arith, t.0, as_many) in
     let k = (c.in_ok-lists.ensures.each count c.in-Some.list below).1 in
     let met = k.call.met in
-    let says : IfOk (get_or lists count c.in-Some.list) (λ listed. AreHappeningsOf g.R.Read.gives c.args.question.now k.job.id k.job.reader
-    k.job.peer listed.items) = search rules in
+    let says : IfOk (get_or lists count c.in-Some.list) (λ listed. AreHappeningsOf g.S.Source.comes g.S.Source.shows c.args.question.now
+    k.job.id k.job.source k.job.peer listed.items) = search rules in
     let is = c.in_ok-jobs.ensures.each count k.job (slice_get_read jobs (length jobs) count k.job refl below k.job_read) in
-    let happened : AreHappeningsOf g.R.Read.gives c.args.question.now k.job.id k.job.reader k.job.peer c.in_ok-listed.listed.items =
-    IfOk-at_ok _ (sym t.1 ∙ c.in_ok-listed.was) says in
+    let happened : AreHappeningsOf g.S.Source.comes g.S.Source.shows c.args.question.now k.job.id k.job.source k.job.peer
+    c.in_ok-listed.listed.items = IfOk-at_ok _ (sym t.1 ∙ c.in_ok-listed.was) says in
     let grown : length (c.loop-list.yielded ++ c.in-Some.list ∷ []) ≡ count + 1 = length-append c.loop-list.yielded (c.in-Some.list ∷ []) in
     let appended : c.append.new.self.items ≡ c.loop-list.all.items ++ c.in_ok-listed.listed.items = search rules in
     let adds = ap contents_of appended ∙ map-append happening_content c.loop-list.all.items c.in_ok-listed.listed.items in
-    rw grown (listed-recorded g.R.Read.gives c.args.question.now c.args.plan.now c.args.readers.items count k.job
+    rw grown (listed-recorded g.S.Source.comes g.S.Source.shows c.args.question.now c.args.plan.now c.args.sources.items count k.job
     c.in_ok-listed.listed.items (contents_of c.loop-list.all.items) (contents_of c.append.new.self.items)
     c.loop-list.invariant is happened adds)
 
@@ -74,11 +75,11 @@ returns-in_err-listed-clause-fault g c =
     let below : count < length jobs = omega (arith, t.0, as_many) in
     let k = (c.in_ok-lists.ensures.each count c.in-Some.list below).1 in
     let met = k.call.met in
-    let fault : IfErr (get_or lists count c.in-Some.list) (IsFaultOf g.R.Read.gives c.args.question.now k.job.id k.job.reader k.job.peer) =
-    search rules in
+    let fault : IfErr (get_or lists count c.in-Some.list) (IsFaultOf g.S.Source.comes g.S.Source.shows c.args.question.now k.job.id
+    k.job.source k.job.peer) = search rules in
     let is = c.in_ok-jobs.ensures.each count k.job (slice_get_read jobs (length jobs) count k.job refl below k.job_read) in
-    let here : IsFaultOf g.R.Read.gives c.args.question.now k.job.id k.job.reader k.job.peer c.in_err-listed.field-0.0 =
+    let here : IsFaultOf g.S.Source.comes g.S.Source.shows c.args.question.now k.job.id k.job.source k.job.peer c.in_err-listed.field-0.0 =
     IfErr-at_err _ (sym t.1 ∙ c.in_err-listed.was) fault in
     let p = err_from_is_err_and c.from_residual-in_err-listed.result c.from_residual-in_err-listed.ensures.1 in
-    rw (p.1, p.2) (fault-recorded g.R.Read.gives c.args.question.now c.args.plan.now c.args.readers.items count k.job is
+    rw (p.1, p.2) (fault-recorded g.S.Source.comes g.S.Source.shows c.args.question.now c.args.plan.now c.args.sources.items count k.job is
     c.in_err-listed.field-0.0 here)

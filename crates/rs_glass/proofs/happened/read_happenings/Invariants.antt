@@ -4,4 +4,5 @@ use Rattle.rs_glass.proofs.HappenedLemmas.{AreListed}
 use Rattle.rs_glass.proofs.happened.read_happenings.Given as goal
 
 abbrev pub invariant-loop-list : goal.invariant-loop-list
-invariant-loop-list g l = AreListed g.R.Read.gives l.question l.plan l.fn.readers.items (length l.yielded) (contents_of l.all.items)
+invariant-loop-list g l =
+    AreListed g.S.Source.comes g.S.Source.shows l.question l.plan l.fn.sources.items (length l.yielded) (contents_of l.all.items)

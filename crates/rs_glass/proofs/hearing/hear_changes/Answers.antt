@@ -2,20 +2,20 @@
 -- if it concerns the prefix. Once no change is given, all were given or passed over.
 use Rattle.std.proofs.Common.{◌≡◌, ◌∙◌, ◌++◌, ◌∷◌, [], false, refl, sym}
 use Rattle.std.specs.List.{list_any}
-use Rattle.rs_mrt.specs.RecordReading.{MayCome, room_left}
 use Rattle.rs_session.specs.Change.{change_of, is_close}
 use Rattle.rs_session.specs.Stage.{most_changes}
+use Rattle.rs_glass.specs.Recorded.{AreChangesOf}
 use Rattle.rs_glass.proofs.GivenLemmas.{few-smaller, given-all, given-none}
 use Rattle.rs_glass.proofs.PassedOverLemmas.{given-more-behind, open-over, taken-over}
-use Rattle.rs_glass.proofs.ReadingLemmas.{taken-more, taken-none, taken-said}
+use Rattle.rs_glass.proofs.ReadingLemmas.{taken-more, taken-none, told}
 use Rattle.rs_glass.proofs.hearing.hear_changes.Goals as goal
 
 pub loop-routes-init : goal.loop-routes-init
 loop-routes-init g c =
     let question = c.args.question.now in
-    rw (c.over_by-session.ensures, c.new.ensures) (record {
+    rw c.over_by-session.ensures (record {
       given = [];
-      is_given = given-none (MayCome g.R.Read.gives) (λ r. r.shown) _ refl;
+      is_given = given-none g.S.Source.comes g.S.Source.shows _ refl;
       is_taken = taken-none question.prefix c.none-routes.result c.nothing-said.result c.none-routes.ensures
           (c.nothing-said.ensures question.prefix);
     })
@@ -24,8 +24,8 @@ pub loop-routes-smaller : goal.loop-routes-smaller
 loop-routes-smaller g c =
     let closes = rw c.in-Some.is at c.in_ok-word.ensures.closes in
     let fewer = rw c.in-Some.is at c.in_ok-word.ensures.fewer in
-    few-smaller (most_changes (λ r. room_left r) (λ r. r.shown) c.loop-routes.session)
-    (most_changes (λ r. room_left r) (λ r. r.shown) c.next_word_on.new.self) c.loop-routes.session.closed c.next_word_on.new.self.closed
+    few-smaller (most_changes g.S.Source.room g.S.Source.shows c.loop-routes.session)
+    (most_changes g.S.Source.room g.S.Source.shows c.next_word_on.new.self) c.loop-routes.session.closed c.next_word_on.new.self.closed
     (is_close (change_of c.in-Some.word)) closes.0 closes.1 fewer
 
 pub loop-routes-preserved : goal.loop-routes-preserved
@@ -42,7 +42,7 @@ loop-routes-preserved g c =
     open-over question.prefix r.given over says.are_over.beside (sym r.is_given.closed ∙ closes.0) in
     record {
       given = given ++ change_of c.in-Some.word ∷ [];
-      is_given = given-more-behind (MayCome g.R.Read.gives) (λ r. r.shown)
+      is_given = given-more-behind g.S.Source.comes g.S.Source.shows
           _ question.prefix r.given over c.loop-routes.session c.next_word_on.new.self c.in-Some.word says.are_over.beside
           r.is_given says.says closes;
       is_taken = taken-more question.prefix given (change_of c.in-Some.word)
@@ -55,8 +55,12 @@ returns g c =
     let question = c.args.question.now in
     let says = rw c.in_default.is at c.in_ok-word.ensures.says in
     let r = c.loop-routes.invariant in
-    let all = given-all (MayCome g.R.Read.gives) (λ r. r.shown) _ g.R.Read.gives question c.args.id c.args.reader
-    (c.a_reader_gives_a_file_or_fails.ensures c.args.reader question.errors c.args.id)
-    r.given c.loop-routes.session c.next_word_on.new.self r.is_given says.says c.in_ok-word.ensures.more in
-    taken-said question.prefix g.R.Read.gives question c.args.id c.args.reader refl r.given c.loop-routes.routes c.loop-routes.said
-    r.is_taken all c.left_by_part.ensures c.left_by_last_changes.ensures
+    let all = given-all g.S.Source.comes g.S.Source.shows _ r.given c.loop-routes.session c.next_word_on.new.self r.is_given says.says
+    c.in_ok-word.ensures.more in
+    let changes : AreChangesOf g.S.Source.comes g.S.Source.shows question c.args.id c.args.source r.given =
+    record { passed = all.0; says = all.1 } in (
+      r.given,
+      changes,
+      told question.prefix r.given c.loop-routes.routes c.loop-routes.said c.left_by_part.ensures c.left_by_last_changes.ensures
+          r.is_taken.left_is r.is_taken.is_said,
+    )
