@@ -5,8 +5,8 @@
 //! is read once more for each of its sessions that may close before its end. It is read within the bounds and by the
 //! standard of the run, and the notes are those of the run. Only if import policy is configured, the tables of the run
 //! are built too, for the note on peers of whose routes every one is filtered. That needs each file once more, so there
-//! is no such note if a file gives its octets only once. What was asked for, as a tail that is left out, has its note and
-//! is no reason for a status.
+//! is no such note if a file gives its octets only once. What was asked for, as a tail that is left out, has its note
+//! and is no reason for a status.
 
 ghost use Rattle.std.specs.Prelude.{◌≡◌, length};
 
