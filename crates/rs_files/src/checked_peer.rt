@@ -10,7 +10,7 @@ use rs_host::{Unready, on_one_line};
 use rs_inventory::{Inventory, Kind, Peer, PeerRecords};
 use rs_notes::{Close, Contents};
 use rs_query::CheckQuery;
-use rs_session::PeerId;
+use rs_session::{PeerId, is_cut_short};
 use rs_update::Errors;
 use std::alloc::AllocError;
 use std::fs::Files;
@@ -111,7 +111,7 @@ fn add_close<R: AllocGlobal + Files>(
     };
     let reason = close_text(rt.alloc(), close.reason)?;
     add_line(text, &spec.name, Found::Closes(&reason, close.octet))?;
-    Ok(if close.is_cut {
+    Ok(if is_cut_short(close.reason) {
         Close::WithinRecord
     } else {
         Close::AtFault

@@ -1,12 +1,12 @@
 //! What a run over a configuration would meet: why it would be refused, which files can't be read, what files hold of
 //! each peer, where sessions close, and the notes.
 //!
-//! Our choices: each file is read twice, however many peers name it, and once more for each of its sessions that may close
-//! before its end. It is read within the bounds and by the standard of the run. The notes are those of a run, made of
-//! what the first reading tells. Only if import policy is configured, the tables of the run are built too, for the note
-//! on peers of whose routes every one is filtered. That needs each file once more, so there is no such note if a file
-//! gives its octets only once. What was asked for, as a tail that is left out, has its note and is no reason for a
-//! status.
+//! Our choices: each file is read twice, however many peers name it: for its outline, and for what its messages say. It
+//! is read once more for each of its sessions that may close before its end. It is read within the bounds and by the
+//! standard of the run, and the notes are those of the run. Only if import policy is configured, the tables of the run
+//! are built too, for the note on peers of whose routes every one is filtered. That needs each file once more, so there
+//! is no such note if a file gives its octets only once. What was asked for, as a tail that is left out, has its note
+//! and is no reason for a status.
 
 ghost use Rattle.std.specs.Prelude.{◌≡◌, length};
 

@@ -1,14 +1,11 @@
 //! Where the recorded session of a peer closes before the end of its file, by RFC 4271 or RFC 7606 (docs/MANUAL.md,
 //! "Report and dumps").
 
-ghost use Rattle.std.specs.Prelude.{◌<◌};
-
 use rs_host::{Unready, open_file};
-use rs_mrt::{Bounds, Lenient, Read, RecordReader, Source};
+use rs_mrt::{Lenient, RecordReader, Source};
 use rs_query::CheckQuery;
 use rs_session::{Body, PeerId, Reason, Session};
-use rs_update::Errors;
-use std::alloc::{AllocError, Global};
+use std::alloc::AllocError;
 use std::fs::Files;
 
 /// Where a session closes before the end of its file.
@@ -18,8 +15,6 @@ pub(crate) struct EarlyClose {
     pub(crate) octet: u64,
     /// Why.
     pub(crate) reason: Reason,
-    /// Whether the end of the file cuts the record short.
-    pub(crate) is_cut: bool,
 }
 
 /// Where the session of a peer closes before the end of the file at a path; none if it doesn't. The file is read within
@@ -32,35 +27,19 @@ pub(crate) fn early_close_at<R: AllocGlobal + Files>(
     query: &CheckQuery,
 ) -> Result<Option<EarlyClose>, Unready> {
     let alloc = rt.alloc();
-    let close = match open_file(rt, path) {
-        Ok(file) => close_of(alloc, file, query.bounds, peer, query.errors)?,
+    let records = match open_file(rt, path) {
+        Ok(file) => RecordReader::up_to(file, query.bounds.until),
         Err(fault) => return Err(Unready::by_file(alloc, fault, path)),
     };
-    match close.reason {
+    let source = Lenient::new(records, query.bounds.tail);
+    let mut session = Session::over_by(alloc, source, peer, query.errors);
+    let reason = reason_of(&mut session)?;
+    let octet = session.source().source().place();
+    match reason {
         Reason::EndOfFile => Ok(None),
         Reason::Read => Err(Unready::by_path(alloc, path)),
-        _ => Ok(Some(close)),
+        _ => Ok(Some(EarlyClose { octet, reason })),
     }
-}
-
-// Where the session of a peer closes in the file that a reader gives, within bounds.
-fn close_of<R: Read + Drop>(
-    alloc: Global,
-    reader: R,
-    bounds: Bounds,
-    peer: PeerId,
-    errors: Errors,
-) -> Result<EarlyClose, AllocError>
-    requires { R.failures reader < u64.MAX }
-{
-    let records = Lenient::new(RecordReader::up_to(reader, bounds.until), bounds.tail);
-    let mut session = Session::over_by(alloc, records, peer, errors);
-    let reason = reason_of(&mut session)?;
-    Ok(EarlyClose {
-        octet: session.source().source().place(),
-        reason,
-        is_cut: session.shown().is_none(),
-    })
 }
 
 // Why a session closes.

@@ -1,7 +1,7 @@
 //! What recorded files hold, and where they end, as notes tell of it.
 //!
 //! Our choices: if nobody made an outline of a file, the file is read once more, however many peers name it, and of each
-//! message only the type. Of a compressed file only its first octets are read. A pipe gets no note, nor does a file that
+//! message only the type. Of a compressed file only the first octets are read. A pipe gets no note, nor does a file that
 //! cannot be read. If all notes are wanted, one that cannot be read, though it is no pipe, counts as a note.
 
 use crate::format::{FRONT_LEN, Format};
@@ -74,7 +74,7 @@ pub fn read_contents<'a, R: AllocGlobal + Files>(
     contents_at(rt, path, bounds, peer_of_server(setup), None)
 }
 
-/// What the file at a path holds within bounds, by its outline: the file is read for that if the outline isn't known. It
+/// What the file at a path holds within bounds, by its outline. If the outline isn't known, the file is read for it. It
 /// fails as `read_contents` does.
 pub(crate) fn contents_at<'a, R: AllocGlobal + Files>(
     rt: &R,
@@ -92,8 +92,8 @@ pub(crate) fn contents_at<'a, R: AllocGlobal + Files>(
     Ok(Contents::new(path, front, outline, bounds.tail))
 }
 
-// How a file is compressed that begins with these octets and is read up to a time. One whose first record would be later
-// isn't looked at: none of it is read.
+// How a file is compressed that begins with these octets and is read up to a time. It isn't looked at if its first
+// record would be later, since none of it is read then.
 fn compression_within(front: &[u8], until: Option<u32>) -> Option<Compression> {
     match until {
         Some(until) if front.len() >= HEADER_LEN && BigEndian::read_u32(front) > until => None,

@@ -13,12 +13,7 @@ use rs_types::Prefix;
 use std::alloc::Global;
 
 /// Adds the notes.
-pub(crate) fn add_exchange(
-    alloc: Global,
-    setup: &Setup,
-    all: &[Contents<'_>],
-    notes: &mut Notes,
-) {
+pub(crate) fn add_exchange(alloc: Global, setup: &Setup, all: &[Contents<'_>], notes: &mut Notes) {
     add_back(alloc, all, notes);
     if let Some(subnet) = setup.plan.local().subnet {
         if is_deserted(setup, subnet) {

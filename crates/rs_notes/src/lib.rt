@@ -3,10 +3,10 @@
 //!
 //! Reading order, what may be wrong with a file first: `format` (its format), `hint` (the note on a file without a
 //! record of its peer), `near` (which peer is meant then). `lost` finds a loss with the address of no peer. Then what
-//! notes are about: `subject`, `peers`, `contents` (what files hold), `outlines` (what tells that while they are read),
-//! `look` (what a file shows of which nothing was kept). Then the notes: `note` (their texts), `group` (one line on several
-//! peers), `mistakes`, `doubts`, `all_filtered` (which peers left only routes that are filtered), `import_notes`,
-//! `exchange`, `notes`.
+//! notes are about: `subject`, `peers`, `contents` (what files hold), `outlines` (how that is known while files are
+//! read), `look` (what a file shows of which nothing was kept). Then the notes: `note` (their texts), `group` (one line
+//! on several peers), `mistakes`, `doubts`, `all_filtered` (which peers left only routes that are filtered),
+//! `import_notes`, `exchange`, `notes`.
 //!
 //! A call that allocates fails if memory is refused.
 #![tactic(auto)]
