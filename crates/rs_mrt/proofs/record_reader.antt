@@ -5,3 +5,4 @@ pub mod UntilLemmas
 pub mod FrontLemmas
 pub mod FindLemmas
 pub mod AdvanceLemmas
+pub mod PlaceLemmas

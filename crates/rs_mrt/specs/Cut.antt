@@ -18,12 +18,13 @@ ends_in_record other = false
 abbrev pub time_in : List ℕ → Option ℕ
 time_in octets = if nat_le 4 (length octets) then Some (big_number 4 octets) else None
 
--- The record that the end of the file cuts short, if there is one: where it begins, how many of its octets came, and
--- its Timestamp. The octets at hand are the record's first ones then.
+-- where a record is cut short: it begins behind so many octets, so many of its own came, and these are its first ones
+abbrev pub cut_at : ℕ → ℕ → List ℕ → Cut
+cut_at octet len front = record { octet = octet; len = len; time = time_in front }
+
+-- The record that the end of the file cuts short, if there is one. The octets at hand are its first ones then.
 abbrev pub cut_of : {R : Type 0} → RecordReading R → Option Cut
 cut_of reading =
-    if ends_in_record reading.stopped then Some (record {
-      octet = reading.place;
-      len = reading.inflow.came - reading.place;
-      time = time_in reading.held;
-    }) else None
+    if ends_in_record reading.stopped
+    then Some (cut_at reading.place (reading.inflow.came - reading.place) reading.held)
+    else None

@@ -133,7 +133,8 @@ module _ {R : Type 0} (gives : R → List ℕ → ReadEnd → Type 0) (failures 
     pub front : shown ≡ Some (front_of (front_record (before ++ piece)))
     pub behind : held ≡ after_record (before ++ piece)
 
-  -- no whole record comes, nor the header of a later one
+  -- No whole record comes, nor the header of a later one. The last octets that came may be passed over, if a whole
+  -- header is at hand.
   pub record FindsNone (until : Option ℕ) (old new : Inflow R) (before after : List ℕ)
       (answer : Result Bool SourceFault) : Type 0 where
     pub piece : List ℕ
@@ -143,6 +144,9 @@ module _ {R : Type 0} (gives : R → List ℕ → ReadEnd → Type 0) (failures 
     pub lacks : has_record (before ++ piece) ≡ false
     pub in_time : rest_is_later until (before ++ piece) ≡ false
     pub says : answer ≡ answer_behind end (before ++ piece)
+    pub gone : List ℕ
+    pub whole : after ++ gone ≡ before ++ piece
+    pub kept : (gone ≡ []) ⊎ (header_len ≤ length after)
     pub fewer : length after ≤ length before + length piece
 
   -- the header of a later record came; more octets may arrive behind it

@@ -10,6 +10,7 @@ pub mod Examples  -- worked examples
 pub mod Reader  -- what a reader may still give
 pub mod RecordReading  -- the records of a reader
 pub mod Cut  -- a record that the end of its file cuts short
+pub mod Places  -- where records begin in their file
 pub mod Inflow  -- how they are taken, step by step
 pub mod MemoryReading  -- a reader over memory
 pub mod Stream  -- what a writer has taken

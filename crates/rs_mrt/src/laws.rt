@@ -1,11 +1,12 @@
 //! What holds of the definitions. Each law is the contract of a function that does nothing.
 
-ghost use Rattle.std.specs.Prelude.{◌≡◌, ◌<◌, ℕ, List, Option, None, Some, length, map, if◌then◌else◌};
+ghost use Rattle.std.specs.Prelude.{◌≡◌, ◌<◌, ℕ, List, [], Option, None, Some, length, map, if◌then◌else◌};
 ghost use Rattle.rs_mrt.specs.Entry.{FrontSaysTheSame, front_len, front_of};
 ghost use Rattle.rs_mrt.specs.Examples.{RecordExamples, EntryExamples, SourceExamples, WriterExamples, ReaderExamples};
 ghost use Rattle.rs_mrt.specs.Reader.{ReadEnd, FileEnds};
 ghost use Rattle.rs_mrt.specs.Record.{MrtRecord, SplitIsFound, SplitIsTheOnlyOne, end_of, records_of};
 ghost use Rattle.rs_mrt.specs.RecordReading.{MayCome, read_limit, unread, unread_until};
+ghost use Rattle.rs_mrt.specs.Places.{HasPassed};
 ghost use Rattle.rs_mrt.specs.Source.{source_end};
 ghost use Rattle.rs_mrt.specs.declared.fault.SourceFault.{SourceFault};
 ghost use Rattle.rs_mrt.specs.Bounds.{end_within, has_later, records_until};
@@ -50,6 +51,19 @@ pub fn known_octets_are_shown_up_to<R: Read>(_reader: &R, _file: &[u8], _time: u
         → MayCome R.gives (unread_until (Some _time) _reader.now) records fault
         → (records ≡ map front_of (records_until (Some _time) _file.now))
         × (fault ≡ (if has_later (Some _time) _file.now then None else source_end (end_of _file.now))) }
+{}
+
+/// A reader of known octets, fewer than 2^50, has passed no record of them at first. So each record is shown at its
+/// place, by the clause `next` of `advance`: behind as many octets as the records before it take.
+pub fn a_reader_begins_before_the_first_record<R: Read>(
+    _reader: &R,
+    _file: &[u8],
+    _until: Option<u32>,
+)
+    requires known { (octets : List ℕ) (end : ReadEnd) → R.gives _reader.now octets end
+        → (octets ≡ _file.now) × (end ≡ FileEnds) }
+    requires fits { length _file.now < read_limit }
+    ensures { HasPassed R.gives _file.now [] (unread_until _until _reader.now) }
 {}
 
 /// A reader of known octets, fewer than 2^50, that is read within bounds gives the front of each record before the first

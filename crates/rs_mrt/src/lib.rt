@@ -34,8 +34,9 @@ pub use cut::Cut;
 pub use fault::{MrtFault, SourceFault};
 pub use inlet::READ_LIMIT;
 pub use laws::{
-    examples_hold, file_splits_in_one_way, front_of_a_record_says_the_same, known_octets_are_shown,
-    known_octets_are_shown_up_to, what_is_within_bounds,
+    a_reader_begins_before_the_first_record, examples_hold, file_splits_in_one_way,
+    front_of_a_record_says_the_same, known_octets_are_shown, known_octets_are_shown_up_to,
+    what_is_within_bounds,
 };
 pub use lenient::Lenient;
 pub use losses::Losses;

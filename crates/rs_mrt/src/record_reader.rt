@@ -4,10 +4,11 @@
 //! of a read ends the records, and the read isn't tried again. No more than 2^50 octets are taken. If there is a time,
 //! the records end before the first one that is later. Nothing behind the header of that record is asked for.
 
-ghost use Rattle.std.specs.Prelude.{◌≡◌, ◌+◌, ◌-◌, ◌^◌, ◌<◌, ◌≤◌, None, length, true};
-ghost use Rattle.rs_mrt.specs.Record.{octets_of};
+ghost use Rattle.std.specs.Prelude.{◌≡◌, ◌+◌, ◌-◌, ◌^◌, ◌<◌, ◌≤◌, ℕ, List, None, length, true};
+ghost use Rattle.rs_mrt.specs.Record.{MrtRecord, octets_of};
 ghost use Rattle.rs_mrt.specs.Bounds.{rest_is_later};
 ghost use Rattle.rs_mrt.specs.Cut.{cut_of, ends_in_record, time_in};
+ghost use Rattle.rs_mrt.specs.Places.{HasPassed, SaysPlace};
 ghost use Rattle.rs_mrt.specs.RecordReading.{unread, unread_until, MayCome, StaysStopped, room_left, read_limit};
 ghost use Rattle.rs_mrt.specs.RecordReading.{something_comes};
 ghost use Rattle.rs_mrt.specs.Source.{Advances, CountsFailure, Stays, Stops};
@@ -191,6 +192,10 @@ impl<R: Read> Source for RecordReader<R> {
             → self.new.inflow.reader ≡ self.old.inflow.reader }
         // The next record begins where those octets begin that came and stand behind the record that was shown.
         ensures place { self.old.stopped ≡ None → self.new.place ≡ self.old.inflow.came - length self.old.held }
+        // If the reader has passed the first records of a file, it shows the next one, at its place, or says how the
+        // end of the file cuts it short.
+        ensures next { (file : List ℕ) (before : List MrtRecord) → self.old.stopped ≡ None
+            → HasPassed R.gives file before self.old → SaysPlace R.gives file before self.new result }
     {
         if let Some(answer) = self.stopped {
             return answer;

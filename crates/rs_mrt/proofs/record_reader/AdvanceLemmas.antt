@@ -13,7 +13,7 @@ use Rattle.rs_mrt.proofs.record.RecordLemmas.{length-after_record, has_record-lo
 use Rattle.rs_mrt.proofs.record_reader.FrontLemmas.{later_shown, none_shown, one_shown}
 
 -- a record that stands at the front takes no more octets than there are
-front_room : (octets : List ℕ) → has_record octets ≡ true → octets_of (Some (front_record octets)) ≤ length octets
+pub front_room : (octets : List ℕ) → has_record octets ≡ true → octets_of (Some (front_record octets)) ≤ length octets
 front_room octets stands =
     let long = has_record-long octets stands in
     omega (arith, length-take (length_field octets) (drop 12 octets), long.0, long.1)

@@ -1,7 +1,7 @@
 -- How the next record is found in a window, or none is: for `find_front` of record_reader.rt.
 use Rattle.std.proofs.Common.{◌≡◌, ℕ, ◌+◌, ◌-◌, ◌≤◌, ◌<◌, min, List, [], ◌∷◌, ◌++◌, length, take, drop, Option, Some, Result, Ok, Err, Bool}
-use Rattle.std.proofs.Common.{true, false, refl, sym, ap, subst, ◌∙◌, append_assoc, arith, inr, length-append}
-use Rattle.std.specs.Prelude.{if◌then◌else◌}
+use Rattle.std.proofs.Common.{true, false, refl, sym, ap, subst, ◌∙◌, append_assoc, arith, inl, inr, length-append}
+use Rattle.std.specs.Prelude.{◌⊎◌, if◌then◌else◌}
 use Rattle.std.proofs.lemmas.Bool.{lt-ltb}
 use Rattle.std.proofs.lemmas.List.{append-nil, take_rest}
 use Rattle.byteorder.specs.Endian.{big_number}
@@ -61,8 +61,9 @@ module _ {R : Type 0} (gives : R → List ℕ → ReadEnd → Type 0) (failures 
       (answer : Result Bool SourceFault) → Draws gives failures old new piece (call_at end failed)
       → after ++ gone ≡ before ++ piece → length after + length gone < 12 + length_field (after ++ gone)
       → rest_is_later until (after ++ gone) ≡ false
-      → answer ≡ answer_behind end (after ++ gone) → FindsNone gives failures until old new before after answer
-  none-found until old new before after gone piece end failed answer drawn whole short in_time says =
+      → answer ≡ answer_behind end (after ++ gone) → (gone ≡ []) ⊎ (12 ≤ length after)
+      → FindsNone gives failures until old new before after answer
+  none-found until old new before after gone piece end failed answer drawn whole short in_time says kept =
       let len : length after + length gone ≡ length before + length piece =
       sym (length-append after gone) ∙ ap length whole ∙ length-append before piece in
       record {
@@ -73,6 +74,9 @@ module _ {R : Type 0} (gives : R → List ℕ → ReadEnd → Type 0) (failures 
         lacks = ap has_record (sym whole) ∙ has_record-cut (after ++ gone) (omega (arith, length-append after gone));
         in_time = ap (rest_is_later until) (sym whole) ∙ in_time;
         says = says ∙ ap (answer_behind end) whole;
+        gone = gone;
+        whole = whole;
+        kept = kept;
         fewer = omega arith;
       }
 
@@ -86,7 +90,7 @@ module _ {R : Type 0} (gives : R → List ℕ → ReadEnd → Type 0) (failures 
       none-found until old new before after [] fills.piece end failed answer fills.drawn (same ∙ fills.filled)
       (subst (λ (z : List ℕ). length after + 0 < 12 + length_field z) (sym same) (omega arith))
       (ap (rest_is_later until) same ∙ in_time)
-      (says ∙ ap (answer_behind end) (sym same))
+      (says ∙ ap (answer_behind end) (sym same)) (inl refl)
 
   -- not even a header came
   pub short-header : (until : Option ℕ) (old new : Inflow R) (before after : List ℕ) (end : ReadEnd) (failed : Failed)
@@ -138,7 +142,7 @@ module _ {R : Type 0} (gives : R → List ℕ → ReadEnd → Type 0) (failures 
       (Draws-then gives failures old mid new fills.piece gone (call_at end failed) fills.drawn skips.drawn)
       (whole-came before after fills.piece gone fills.filled) (omega arith)
       (rest-in-time until (after ++ gone) (λ _. time-behind until after gone long ∙ in_time))
-      (body-cut end (after ++ gone) (omega (arith, length-append after gone)))
+      (body-cut end (after ++ gone) (omega (arith, length-append after gone))) (inr long)
 
   -- the record is whole
   pub found-front : (until : Option ℕ) (old mid new : Inflow R) (before after : List ℕ) (len n : ℕ)
