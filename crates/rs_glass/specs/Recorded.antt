@@ -1,20 +1,18 @@
 -- The recorded session of a peer, as far as a prefix is concerned.
-use Rattle.std.specs.Prelude.{◌≡◌, ◌↔◌, ◌<◌, ◌==◌, ◌||◌, ℕ, Bool, true, false, if◌then◌else◌, List, reverse}
+use Rattle.std.specs.Prelude.{◌≡◌, ◌↔◌, ◌<◌, ℕ, Bool, true, false, if◌then◌else◌, List, reverse}
 use Rattle.std.specs.Prelude.{Option, None, Some, slice_get}
 use Rattle.std.specs.FinMap.{get}
 use Rattle.std.specs.List.{find}
 use Rattle.std.specs.Option.{option_and_then, option_map_or}
 use Rattle.rs_update.specs.Covering.{covers}
 use Rattle.rs_update.specs.IpPrefix.{IpPrefix}
-use Rattle.rs_mrt.specs.Fault.{number_of}
 use Rattle.rs_mrt.specs.Record.{MrtRecord}
-use Rattle.rs_mrt.specs.declared.fault.MrtFault.TheVariants.{HeaderCutShort, BodyCutShort}
 use Rattle.rs_session.specs.Change.{Change, ChangeBody, Announced, Withdrawn, Lost, Closed, is_read, is_close}
+use Rattle.rs_session.specs.Closing.{is_cut_short}
 use Rattle.rs_session.specs.Stage.{Comes}
 use Rattle.rs_session.specs.Told.{MayTell}
 use Rattle.rs_session.specs.declared.peer.PeerId.{PeerId}
 use Rattle.rs_change.specs.declared.word.Reason.{Reason}
-use Rattle.rs_change.specs.declared.word.Reason.TheVariants as reasons
 use Rattle.rs_choice.specs.Plan.{Peer, Plan}
 use Rattle.rs_table.specs.Content.{TablesContent, rib_of}
 use Rattle.rs_table.specs.Left.{Leaves, RouteLeft, Routes}
@@ -49,16 +47,11 @@ close_after before (Closed reason) = Some reason
 abbrev pub is_failed_read : Option Reason → Bool
 is_failed_read close = option_map_or is_read close false
 
--- the fault is that of a record which the end of its file cuts short (RFC 6396, section 2); then there is no whole
--- record
-abbrev pub is_cut : ℕ → Bool
-is_cut number = (number == number_of HeaderCutShort) || (number == number_of BodyCutShort)
-
 -- When a route was announced, if it is there, or when it was removed. A close because of a record at fault has the
 -- time of the record. A close because of a record that is cut short has no time, and neither has a route that was
 -- never announced.
 abbrev pub ended_at : ℕ → EndedBy → Option ℕ
-ended_at time (ended.Close (reasons.Mrt number)) = if is_cut number then None else Some time
+ended_at time (ended.Close reason) = if is_cut_short reason then None else Some time
 ended_at time by = Some time
 
 abbrev pub time_of : LastSaid → Option ℕ

@@ -3,12 +3,11 @@
 ghost use Rattle.std.specs.Prelude.{◌≡◌, ◌++◌, ◌∷◌, [], List};
 ghost use Rattle.rs_update.specs.IpPrefix.{IpPrefix};
 ghost use Rattle.rs_session.specs.Change.{change_of, Change};
-ghost use Rattle.rs_glass.specs.Recorded.{IsSaid, close_after, is_cut, is_failed_read, time_of};
+ghost use Rattle.rs_glass.specs.Recorded.{IsSaid, close_after, is_failed_read, time_of};
 
 use crate::cause::Cause;
 use rs_explain::{EndedBy, LastSaid};
-use rs_mrt::MrtFault;
-use rs_session::{Body, Reason, Word};
+use rs_session::{Body, Reason, Word, is_cut_short};
 use rs_update::Prefix;
 
 /// What a peer's changes say last of a prefix, and why its route was taken away or its session closed.
@@ -57,18 +56,11 @@ impl Said {
             LastSaid::NeverAnnounced => None,
             LastSaid::Announced(time) => Some(time),
             LastSaid::Ended(_, ending) => match ending.by {
-                EndedBy::Close(Reason::Mrt(number)) if is_cut(number) => None,
+                EndedBy::Close(reason) if is_cut_short(reason) => None,
                 _ => Some(ending.time),
             },
         }
     }
-}
-
-// Whether the number of a fault of the recording is that of a record which is cut short by the end of its file.
-fn is_cut(number: u8) -> bool
-    ensures { result ≡ is_cut number }
-{
-    number == MrtFault::HeaderCutShort.number() || number == MrtFault::BodyCutShort.number()
 }
 
 // Why the route was removed: this is new if the route was there before a change and not after it.
