@@ -8,7 +8,7 @@ use rs_host::open_file;
 use rs_inventory::{Inventory, Peer, PeerRecords, read_outline};
 use rs_losses::{Sought, WithLosses};
 use rs_mrt::{Bounds, Lenient, Losses, RecordReader};
-use rs_notes::{Contents, Outlines, Subject, Telling, contents_of, is_file, notes_of};
+use rs_notes::{Contents, Outlines, Subject, Telling, contents_of, notes_of};
 use rs_opening::sought;
 use rs_setup::Setup;
 use std::alloc::AllocError;
@@ -133,7 +133,7 @@ pub fn sessions_of<R: AllocGlobal + Files>(
         sessions.push(match losses {
             Losses::Recorded => recorded_session(setup, contents, peer),
             Losses::Inferred if whose.includes(peer) => {
-                inferred_session(rt, setup, outlines, peer)
+                inferred_session(rt, setup, outlines.bounds(), contents, peer)
             }
             Losses::Inferred => PeerSession::UNKNOWN,
         })?;
@@ -143,25 +143,23 @@ pub fn sessions_of<R: AllocGlobal + Files>(
 
 // What is known of the session of a peer by what its file holds.
 fn recorded_session(setup: &Setup, contents: &[Contents<'_>], peer: usize) -> PeerSession {
-    let Some(path) = setup.files.get(peer) else {
-        return PeerSession::UNKNOWN;
-    };
-    match contents_of(contents, path) {
+    match contents_by(setup, contents, peer) {
         Some(contents) => PeerSession::of(records_of(setup, peer, &contents.held)),
         None => PeerSession::UNKNOWN,
     }
 }
 
-// The same with losses inferred: its file is read once more, if it gives its octets each time.
+// The same with losses inferred: its file is read once more within bounds, unless it is compressed.
 fn inferred_session<R: AllocGlobal + Files>(
     rt: &R,
     setup: &Setup,
-    outlines: &Outlines,
+    bounds: Bounds,
+    contents: &[Contents<'_>],
     peer: usize,
 ) -> PeerSession {
-    let held = match setup.files.get(peer) {
-        Some(path) if peer < setup.plan.count() => {
-            inferred_at(rt, path, outlines.bounds(), sought(&setup.plan, peer))
+    let held = match contents_by(setup, contents, peer) {
+        Some(contents) if contents.held.compression().is_none() && peer < setup.plan.count() => {
+            inferred_at(rt, contents.path, bounds, sought(&setup.plan, peer))
         }
         _ => None,
     };
@@ -171,17 +169,23 @@ fn inferred_session<R: AllocGlobal + Files>(
     }
 }
 
-// The content of the file at a path within bounds, with the losses of a peer inferred. None if the file may give its
-// octets only once, or can't be read.
+// What the file of a peer holds, if that is known.
+fn contents_by<'b, 'a>(
+    setup: &Setup,
+    contents: &'b [Contents<'a>],
+    peer: usize,
+) -> Option<&'b Contents<'a>> {
+    contents_of(contents, setup.files.get(peer)?)
+}
+
+// The content of the file at a path within bounds, with the losses of a peer inferred. None if the file can't be read,
+// or if memory is refused.
 fn inferred_at<R: AllocGlobal + Files>(
     rt: &R,
     path: &str,
     bounds: Bounds,
     who: Sought,
 ) -> Option<Inventory> {
-    if !is_file(rt, path).ok()? {
-        return None;
-    }
     let records = RecordReader::up_to(open_file(rt, path).ok()?, bounds.until);
     let whole = Lenient::new(records, bounds.tail);
     let source = WithLosses::new(whole, Losses::Inferred, who);

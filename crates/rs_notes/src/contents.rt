@@ -1,8 +1,8 @@
 //! What recorded files hold, and where they end, as notes tell of it.
 //!
 //! Our choices: if nobody made an outline of a file, the file is read once more, however many peers name it, and of each
-//! message only the type. Of a compressed file only the first octets are read. A pipe gets no note, nor does a file that
-//! cannot be read. If all notes are wanted, one that cannot be read, though it is no pipe, counts as a note.
+//! message only the type. Of a compressed file only the first octets are read. A pipe gets no note, nor does a file
+//! that cannot be read. If all notes are wanted, one that cannot be read, though it is no pipe, counts as a note.
 
 use crate::format::{FRONT_LEN, Format};
 use crate::hint::is_known;

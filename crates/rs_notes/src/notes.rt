@@ -143,6 +143,7 @@ pub fn notes_of<R: AllocGlobal + Files>(
                 told.take(rt, subject, setup.plan.peer(peer), contents, ending);
             }
         } else if subject.telling == Telling::All && is_file(rt, path).unwrap_or(true) {
+            // It is a file, or memory to see that is refused.
             told.is_unknown = true;
         }
     }
