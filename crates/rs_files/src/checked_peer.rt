@@ -8,7 +8,7 @@ use rs_choice::PeerSpec;
 use rs_glass_shell::{Unanswered, close_text};
 use rs_host::{Unready, on_one_line};
 use rs_inventory::{Inventory, Kind, Peer, PeerRecords};
-use rs_notes::{Close, Contents};
+use rs_notes::{Close, Contents, peer_of};
 use rs_query::CheckQuery;
 use rs_session::{PeerId, is_cut_short};
 use rs_update::Errors;
@@ -30,14 +30,6 @@ pub(crate) fn add_peer<R: AllocGlobal + Files>(
     match held {
         Some(held) if may_close(held, peer_of(spec)) => add_close(rt, text, spec, path, query),
         _ => Ok(Close::AtEnd),
-    }
-}
-
-// A peer as an inventory names it.
-fn peer_of(spec: &PeerSpec) -> Peer {
-    Peer {
-        address: spec.address,
-        asn: spec.asn,
     }
 }
 

@@ -5,7 +5,7 @@ use rs_inventory::Peer;
 use rs_setup::Setup;
 
 /// A peer as records name it.
-pub(crate) fn peer_of(spec: &PeerSpec) -> Peer {
+pub fn peer_of(spec: &PeerSpec) -> Peer {
     Peer {
         address: spec.address,
         asn: spec.asn,

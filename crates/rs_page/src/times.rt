@@ -12,7 +12,7 @@ use rs_host::{Unready, open_file};
 use rs_inventory::{Peer, PeerRecords};
 use rs_losses::{Sought, WithLosses};
 use rs_mrt::{Bounds, Lenient, Losses, RecordReader, Source};
-use rs_notes::{Contents, contents_of};
+use rs_notes::{Contents, contents_of, peer_of};
 use rs_opening::sought;
 use rs_query::TablesQuery;
 use rs_session::{Body, PeerId, Reason, Session, Word};
@@ -132,14 +132,6 @@ fn later(one: Option<u32>, other: Option<u32>) -> Option<u32> {
         (Some(one), Some(other)) => Some(one.max(other)),
         (None, other) => other,
         (one, None) => one,
-    }
-}
-
-// The peer as records name it.
-fn peer_of(spec: &PeerSpec) -> Peer {
-    Peer {
-        address: spec.address,
-        asn: spec.asn,
     }
 }
 
