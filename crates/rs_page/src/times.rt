@@ -5,7 +5,6 @@
 
 use crate::changes::Changes;
 use crate::spans::{Ends, Span, spans_of};
-use rs_choice::PeerSpec;
 use rs_glass::{Loss, loss_of};
 use rs_glass_shell::Unanswered;
 use rs_host::{Unready, open_file};
