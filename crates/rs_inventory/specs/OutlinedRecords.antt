@@ -47,7 +47,7 @@ whole_by (Err Read) cut gathered = None
 
 -- These records may be all that come. The outline has their content, says whether one of them names the server as its
 -- recorder, and says how they end. `last` is the reader behind them.
-pub record IsOutlineTo {R : Type 0} (server : Peer) (comes : RecordReading R → List MrtRecord → Option SourceFault → Type 0)
+pub record IsFileOutline {R : Type 0} (server : Peer) (comes : RecordReading R → List MrtRecord → Option SourceFault → Type 0)
     (source : RecordReading R) (outline : Outline) : Type 0 where
   pub records : List MrtRecord
   pub come : comes source records (source_end outline.held.end)

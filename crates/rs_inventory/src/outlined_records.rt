@@ -3,7 +3,7 @@
 //! Our choices: the outline is made only if somebody wants it. If memory is refused or a read fails, nothing is known of
 //! the file.
 
-ghost use Rattle.std.specs.Prelude.{◌≡◌, ◌+◌, ◌^◌, ◌<◌, ◌≤◌, IfSome, None};
+ghost use Rattle.std.specs.Prelude.{◌≡◌, ◌+◌, ◌^◌, ◌<◌, ◌≤◌, IfSome, None, is_some};
 ghost use Rattle.rs_mrt.specs.Cut.{cut_of};
 ghost use Rattle.rs_mrt.specs.Record.{octets_of};
 ghost use Rattle.rs_mrt.specs.RecordReading.{MayCome, read_limit, room_left, something_comes};
@@ -49,7 +49,7 @@ impl<'a, R: Read> Outlined<'a, R> {
         ensures source { result.source ≡ source }
         ensures server { result.server ≡ server }
         ensures begins { IfSome result.gathered OutlinesNothing }
-        ensures unwanted { slot ≡ None → result.gathered ≡ None }
+        ensures wanted { is_some result.gathered ≡ is_some slot.entry }
     {
         let outline = match slot {
             Some(_) => Some(Outline::none(alloc)),

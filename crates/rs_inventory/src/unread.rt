@@ -11,6 +11,7 @@ use rs_mrt::{AFI_IPV4, BGP4MP, BGP4MP_ET, MESSAGE_AS4, Record};
 use rs_types::split_item;
 use std::alloc::{AllocError, Global};
 use std::collections::BTreeMap;
+use std::marker::Model;
 
 // The Subtypes of a message with AS numbers of two octets, and of both with ADD-PATH.
 const MESSAGE: u16 = 1;
@@ -102,6 +103,16 @@ impl Unread {
 #[derive(Drop)]
 pub struct UnreadMessages {
     peers: BTreeMap<Peer, Unread>,
+}
+
+impl Model for UnreadMessages {
+    ghost use Rattle.std.specs.Prelude.{List};
+    ghost use Rattle.rs_inventory.specs.declared.peer.Peer.{Peer};
+    ghost use Rattle.rs_inventory.specs.declared.unread.Unread.{Unread};
+
+    ghost Value = { List (Peer × Unread) };
+
+    ghost view = { λ u. u.peers.entries };
 }
 
 impl UnreadMessages {
