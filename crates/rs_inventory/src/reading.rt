@@ -69,7 +69,8 @@ pub fn read_inventory<R: Read + Drop>(
         (record { source = unread_until bounds.until reader; tail = bounds.tail }) held) }
     // A read is only said to fail if the reader may fail, or give as many octets as are taken of it.
     ensures read { IsErrOf result Read
-        → MayFail (ComesBy (MayCome R.gives)) (record { source = unread_until bounds.until reader; tail = bounds.tail }) }
+        → MayFail (ComesBy (MayCome R.gives))
+        (record { source = unread_until bounds.until reader; tail = bounds.tail }) }
 {
     let front = Front::of(&mut reader)?;
     if let Some(compression) = Compression::of(front.octets()) {

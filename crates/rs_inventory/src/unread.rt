@@ -200,8 +200,8 @@ fn session_fields<'a>(record: &Record<'a>) -> Option<&'a [u8]> {
     }
 }
 
-// The peer that such fields name, with AS numbers of four octets or of two, and the message behind them. None if it is no
-// IPv4 peer.
+// The peer that such fields name, with AS numbers of four octets or of two, and the message behind them. None if it is
+// no IPv4 peer.
 fn split_message(fields: &[u8], is_wide: bool) -> Option<(Peer, &[u8])> {
     let moved = if is_wide { WIDER } else { 0 };
     let message = fields.get(MESSAGE_AT.saturating_add(moved)..)?;

@@ -1,7 +1,6 @@
-use Rattle.std.proofs.Common.{◌≡◌, ◌∙◌, sym, ap, subst, Some, option_map}
-use Rattle.rs_mrt.specs.Record.{MrtRecord, record_of}
+use Rattle.std.proofs.Common.{◌∙◌, sym, ap, subst, option_map}
+use Rattle.rs_mrt.specs.Record.{record_of}
 use Rattle.rs_mrt.specs.RecordReading.{MayCome}
-use Rattle.rs_inventory.specs.FileOutline.{ended}
 use Rattle.rs_inventory.specs.OutlinedRecords.{IsFileOutline}
 use Rattle.rs_inventory.specs.declared.file_outline.Outline.{Outline}
 use Rattle.rs_inventory.proofs.OutlineLemmas.{outline-more, outline-start, outline-whole}

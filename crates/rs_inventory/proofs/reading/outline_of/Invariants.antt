@@ -1,5 +1,4 @@
 -- Records came so far that may come, whatever may come after them, and the outline is of these.
-use Rattle.std.proofs.Common.{◌≡◌}
 use Rattle.rs_mrt.specs.RecordReading.{MayCome, room_left}
 use Rattle.rs_inventory.proofs.OutlineLemmas.{OutlineGoing}
 use Rattle.rs_inventory.proofs.reading.outline_of.Given as goal
