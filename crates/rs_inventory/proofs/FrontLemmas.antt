@@ -56,6 +56,7 @@ module _ {R : Type 0} (gives : R → List ℕ → ReadEnd → Type 0) where
       few : (ended : Bool) → (ended || nat_le front_len (length front.octets)) ≡ false → length front.octets < front_len
       few true done = absurd (cc done)
       few false done = leb-false front_len (length front.octets) done
+
       unless : (ended : Bool) → (ended || nat_le front_len (length front.octets)) ≡ false → GivesUnlessEnded gives ended inner [] ReadFails
       unless true done = absurd (cc done)
       unless false done = failed

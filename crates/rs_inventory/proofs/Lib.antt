@@ -6,3 +6,4 @@ mod ItemLemmas
 mod CourseLemmas
 mod FrontLemmas
 mod ReadingLemmas
+mod OutlineLemmas

@@ -23,7 +23,7 @@ use Rattle.rs_inventory.specs.declared.depth.Depth.{Depth}
 use Rattle.rs_inventory.specs.declared.finding.Finding.{Finding}
 
 -- one record more came
-pub going-more : {S : Type 0} (depth : Depth) (comes : S → List MrtRecord → Option SourceFault → Type 0) (initial old new : S)
+abbrev pub going-more : {S : Type 0} (depth : Depth) (comes : S → List MrtRecord → Option SourceFault → Type 0) (initial old new : S)
     (before after : Content)
     (finding : Finding)
     → Going depth comes initial old before

@@ -1,5 +1,5 @@
 -- What one record adds to an inventory (RFC 6396, section 4.4; RFC 4271, section 4).
-use Rattle.std.specs.Prelude.{ℕ, ◌+◌, ◌==◌, ◌&&◌, nat_le, nat_lt, not, Bool, true, false, if◌then◌else◌, List, length}
+use Rattle.std.specs.Prelude.{ℕ, ◌+◌, ◌==◌, ◌&&◌, nat_le, nat_lt, not, Bool, if◌then◌else◌, List, length}
 use Rattle.std.specs.Prelude.{drop, slice_get, Option, Some, None, Result, Ok, Err}
 use Rattle.std.specs.Option.{option_and_then}
 use Rattle.byteorder.specs.Endian.{big_number}

@@ -5,9 +5,8 @@ use Rattle.std.specs.List.{list_any}
 use Rattle.std.specs.Option.{option_map}
 use Rattle.rs_mrt.specs.Cut.{cut_of}
 use Rattle.rs_mrt.specs.Leniency.{answer_at_end}
-use Rattle.rs_mrt.specs.Reader.{ReadEnd}
 use Rattle.rs_mrt.specs.Record.{MrtRecord}
-use Rattle.rs_mrt.specs.RecordReading.{MayCome, RecordReading}
+use Rattle.rs_mrt.specs.RecordReading.{RecordReading}
 use Rattle.rs_mrt.specs.Source.{source_end}
 use Rattle.rs_mrt.specs.declared.cut.Cut.{Cut}
 use Rattle.rs_mrt.specs.declared.fault.SourceFault.{SourceFault}
@@ -25,7 +24,8 @@ pub record Outlining (R : Type 0) : Type 0 where
   pub server : Peer
   pub gathered : Option Outline
 
--- What is gathered after a record was shown. If there is an outline, there was one before, and it has taken this record.
+-- What is gathered after a record was shown. If there is an outline, there was one before, and it has taken this
+-- record.
 abbrev pub TakesShown : Peer → Option Outline → Option MrtRecord → Option Outline → Type 0
 TakesShown server old shown None = Unit {0}
 TakesShown server (Some old) (Some r) (Some new) = TakesRecord server old r new
@@ -47,8 +47,9 @@ whole_by (Err Read) cut gathered = None
 
 -- These records may be all that come. The outline has their content, says whether one of them names the server as its
 -- recorder, and says how they end. `last` is the reader behind them.
-pub record IsOutlineTo {R : Type 0} (server : Peer) (comes : RecordReading R → List MrtRecord → Option SourceFault → Type 0)
-    (source : RecordReading R) (outline : Outline) : Type 0 where
+pub record IsFileOutline {R : Type 0} (server : Peer)
+    (comes : RecordReading R → List MrtRecord → Option SourceFault → Type 0) (source : RecordReading R)
+    (outline : Outline) : Type 0 where
   pub records : List MrtRecord
   pub come : comes source records (source_end outline.held.end)
   pub holds : Holds (map (finding_of depths.Outline) records) outline.held

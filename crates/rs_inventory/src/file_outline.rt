@@ -4,7 +4,8 @@ ghost use Rattle.std.specs.Prelude.{◌≡◌, OnOk};
 ghost use Rattle.rs_mrt.specs.Record.{record_of};
 ghost use Rattle.rs_inventory.specs.FileOutline.{OutlinesNothing, TakesRecord, ended, is_recorder};
 
-use crate::finding::is_peer;
+use crate::depth::Depth;
+use crate::finding::{Finding, is_peer};
 use crate::inventory::Inventory;
 use crate::peer::Peer;
 use crate::unread::UnreadMessages;
@@ -46,8 +47,9 @@ impl Outline {
     ) -> Result<(), AllocError>
         ensures { OnOk result (TakesRecord server self.old (record_of «record».now) self.new) }
     {
-        let recorder = self.held.take_outline(alloc, record)?;
-        self.names_server = self.names_server || is_recorder(recorder, server);
+        let finding = Finding::of(alloc, record, Depth::Outline)?;
+        self.held.take(alloc, finding)?;
+        self.names_server = self.names_server || is_recorder(finding.recorder, server);
         self.unread.take(record, server.asn)?;
         Ok(())
     }

@@ -1,21 +1,17 @@
 //! What a recorded file holds (RFC 6396).
 
 ghost use Rattle.std.specs.Prelude.{◌≡◌, [], IfOk, OnOk, Some, None, slice_index};
-ghost use Rattle.rs_mrt.specs.Record.{record_of};
-ghost use Rattle.rs_inventory.specs.Finding.{finding_of};
 ghost use Rattle.rs_inventory.specs.Inventory.{HoldsNothing, TakesFinding, TakesNote, WithCounts, earlier_of, later_of};
 ghost use Rattle.rs_inventory.specs.Inventory.{first_of, sum_of, with_back};
 ghost use Rattle.rs_inventory.specs.Kind.{place_of};
 ghost use Rattle.rs_inventory.specs.Peer.{TellsMore, peer_content};
-ghost use Rattle.rs_inventory.specs.declared.depth.Depth.TheVariants.{Outline};
 
 use crate::back::{Back, back_with};
 use crate::compression::Compression;
-use crate::depth::Depth;
 use crate::finding::{Finding, News, Note};
 use crate::kind::{KINDS, Kind};
 use crate::peer::{Peer, PeerRecords};
-use rs_mrt::{MrtFault, Record};
+use rs_mrt::MrtFault;
 use std::alloc::{AllocError, Global};
 use std::collections::BTreeMap;
 use std::marker::Model;
@@ -85,24 +81,6 @@ impl Inventory {
         self.take_back(&finding);
         self.count(&finding);
         Ok(())
-    }
-
-    /// Takes the next record as `read_outline` does: of its message no more than the type is read. Answers who recorded
-    /// it, if it is a message of a session with four-octet AS numbers.
-    ///
-    /// Then the inventory may lack a part of the record.
-    pub fn take_outline(
-        &mut self,
-        alloc: Global,
-        record: &Record<'_>,
-    ) -> Result<Option<Peer>, AllocError>
-        ensures takes { IfOk result (λ _. TakesFinding self.old (finding_of Outline (record_of «record».now)) self.new) }
-        ensures compression { IfOk result (λ _. self.new.compression ≡ self.old.compression) }
-        ensures recorder { IfOk result (λ peer. peer ≡ (finding_of Outline (record_of «record».now)).recorder) }
-    {
-        let finding = Finding::of(alloc, record, Depth::Outline)?;
-        self.take(alloc, finding)?;
-        Ok(finding.recorder)
     }
 
     /// Takes how the file ends: in which part of a record, or none if it ends after whole records.

@@ -2,10 +2,10 @@
 //! 4271).
 //!
 //! Reading order, files and records first: `compression` (a file that isn't records), `kind` (what a record is),
-//! `opening` (what an OPEN tells). Then what one record adds: `depth`, `finding` and `outline`. Then what is known of one
-//! peer: `sessions`, `course` and `peer`. Then what is known of one file: `back` (where its times go back) and
-//! `inventory`. Then what its outline tells: `unread`, `file_outline`, `outline_slot` and `outlined_records`. Last how a
-//! file is read: `front` and `reading`.
+//! `opening` (what an OPEN tells). Then what one record adds: `depth`, `finding` and `outline`. Then what is known of
+//! one peer: `sessions`, `course` and `peer`. Then what is known of one file: `back` (where its times go back) and
+//! `inventory`. What its outline tells: `unread` (messages that aren't read) and `file_outline`. Last how a file is
+//! read: `front` and `reading`, and by `outlined_records` and `outline_slot` while somebody else reads it.
 //!
 //! A call that allocates fails if memory is refused.
 #![tactic(auto)]

@@ -1,9 +1,10 @@
 //! The records of a file, of which an outline is made while they are shown (RFC 6396, section 2).
 //!
-//! Our choices: the outline is made only if somebody wants it. If memory is refused or a read fails, nothing is known of
-//! the file.
+//! Our choices: the outline is made only if somebody wants it. If memory is refused or a read fails, nothing is known
+//! of the file. The contracts say what the outline has taken of the records, and what is given at their end. They say
+//! nothing of the slot, since its outline lies behind a lock.
 
-ghost use Rattle.std.specs.Prelude.{◌≡◌, ◌+◌, ◌^◌, ◌<◌, ◌≤◌, IfSome, None};
+ghost use Rattle.std.specs.Prelude.{◌≡◌, ◌+◌, ◌^◌, ◌<◌, ◌≤◌, IfSome, None, is_some};
 ghost use Rattle.rs_mrt.specs.Cut.{cut_of};
 ghost use Rattle.rs_mrt.specs.Record.{octets_of};
 ghost use Rattle.rs_mrt.specs.RecordReading.{MayCome, read_limit, room_left, something_comes};
@@ -49,7 +50,7 @@ impl<'a, R: Read> Outlined<'a, R> {
         ensures source { result.source ≡ source }
         ensures server { result.server ≡ server }
         ensures begins { IfSome result.gathered OutlinesNothing }
-        ensures unwanted { slot ≡ None → result.gathered ≡ None }
+        ensures wanted { is_some result.gathered ≡ is_some slot.entry }
     {
         let outline = match slot {
             Some(_) => Some(Outline::none(alloc)),

@@ -5,7 +5,7 @@ ghost use Rattle.rs_mrt.specs.Leniency.{ComesBy, answer_at_end};
 ghost use Rattle.rs_mrt.specs.RecordReading.{MayCome, unread_until};
 ghost use Rattle.rs_mrt.specs.Source.{source_end};
 ghost use Rattle.rs_inventory.specs.Inventory.{HoldsNothing};
-ghost use Rattle.rs_inventory.specs.OutlinedRecords.{IsOutlineTo};
+ghost use Rattle.rs_inventory.specs.OutlinedRecords.{IsFileOutline};
 ghost use Rattle.rs_inventory.specs.Reading.{GivesFinding, GivesRecord, IsInventoryOf, IsOutlineOf, IsReadingOf};
 ghost use Rattle.rs_inventory.specs.Reading.{MayBeCompressed, MayFail};
 ghost use Rattle.rs_inventory.specs.declared.reading.InventoryFault.TheVariants.{Memory, Read};
@@ -69,7 +69,8 @@ pub fn read_inventory<R: Read + Drop>(
         (record { source = unread_until bounds.until reader; tail = bounds.tail }) held) }
     // A read is only said to fail if the reader may fail, or give as many octets as are taken of it.
     ensures read { IsErrOf result Read
-        → MayFail (ComesBy (MayCome R.gives)) (record { source = unread_until bounds.until reader; tail = bounds.tail }) }
+        → MayFail (ComesBy (MayCome R.gives))
+        (record { source = unread_until bounds.until reader; tail = bounds.tail }) }
 {
     let front = Front::of(&mut reader)?;
     if let Some(compression) = Compression::of(front.octets()) {
@@ -99,7 +100,7 @@ pub fn outline_of<R: Read + Drop>(
     mut source: RecordReader<R>,
     server: Peer,
 ) -> Result<Outline, InventoryFault>
-    ensures outline { IfOk result (IsOutlineTo server (MayCome R.gives) source) }
+    ensures outline { IfOk result (IsFileOutline server (MayCome R.gives) source) }
     ensures uncompressed { IfOk result (λ outline. outline.held.compression ≡ None) }
     ensures read { IsErrOf result Read → MayFail (MayCome R.gives) source }
 {

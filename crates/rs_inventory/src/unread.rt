@@ -11,6 +11,7 @@ use rs_mrt::{AFI_IPV4, BGP4MP, BGP4MP_ET, MESSAGE_AS4, Record};
 use rs_types::split_item;
 use std::alloc::{AllocError, Global};
 use std::collections::BTreeMap;
+use std::marker::Model;
 
 // The Subtypes of a message with AS numbers of two octets, and of both with ADD-PATH.
 const MESSAGE: u16 = 1;
@@ -104,6 +105,16 @@ pub struct UnreadMessages {
     peers: BTreeMap<Peer, Unread>,
 }
 
+impl Model for UnreadMessages {
+    ghost use Rattle.std.specs.Prelude.{List};
+    ghost use Rattle.rs_inventory.specs.declared.peer.Peer.{Peer};
+    ghost use Rattle.rs_inventory.specs.declared.unread.Unread.{Unread};
+
+    ghost Value = { List (Peer × Unread) };
+
+    ghost view = { λ u. u.peers.entries };
+}
+
 impl UnreadMessages {
     /// No message.
     pub fn none(alloc: Global) -> UnreadMessages {
@@ -189,8 +200,8 @@ fn session_fields<'a>(record: &Record<'a>) -> Option<&'a [u8]> {
     }
 }
 
-// The peer that such fields name, with AS numbers of four octets or of two, and the message behind them. None if it is no
-// IPv4 peer.
+// The peer that such fields name, with AS numbers of four octets or of two, and the message behind them. None if it is
+// no IPv4 peer.
 fn split_message(fields: &[u8], is_wide: bool) -> Option<(Peer, &[u8])> {
     let moved = if is_wide { WIDER } else { 0 };
     let message = fields.get(MESSAGE_AT.saturating_add(moved)..)?;

@@ -1,6 +1,6 @@
 use Rattle.std.proofs.Common.{◌≡◌, ◌∙◌, sym, ap, subst, Err, Option, None}
 use Rattle.std.proofs.lemmas.Result.{err_from_is_err_and}
-use Rattle.rs_mrt.specs.Leniency.{ComesBy, Leniency}
+use Rattle.rs_mrt.specs.Leniency.{ComesBy}
 use Rattle.rs_mrt.specs.RecordReading.{MayCome, RecordReading, unread_until}
 use Rattle.rs_inventory.specs.Compression.{compression_of}
 use Rattle.rs_inventory.specs.Front.{Rewound, RewoundGives, rewound}
