@@ -1,6 +1,6 @@
 -- A record that the end of its file cuts short, in its header or in its body (RFC 6396, section 2).
-use Rattle.std.specs.Prelude.{ℕ, ◌-◌, nat_le, if◌then◌else◌, Bool, true, false, List, length, Option, Some, None, Result}
-use Rattle.std.specs.Prelude.{Err}
+use Rattle.std.specs.Prelude.{ℕ, ◌-◌, nat_le, if◌then◌else◌, Bool, true, false, List, length, Option, Some, None}
+use Rattle.std.specs.Prelude.{Result, Err}
 use Rattle.byteorder.specs.Endian.{big_number}
 use Rattle.rs_mrt.specs.declared.cut.Cut.{Cut}
 use Rattle.rs_mrt.specs.declared.fault.MrtFault.TheVariants.{HeaderCutShort, BodyCutShort}

@@ -66,9 +66,9 @@ pub fn a_reader_begins_before_the_first_record<R: Read>(
     ensures { HasPassed R.gives _file.now [] (unread_until _until _reader.now) }
 {}
 
-/// A reader of known octets, fewer than 2^50, that is read within bounds gives the front of each record before the first
-/// that is later. They end with the fault of the file's own end if no record is later and the tail is strict, or else
-/// with none. So `Lenient` answers over a `RecordReader` up to the time of the bounds.
+/// A reader of known octets, fewer than 2^50, that is read within bounds gives the front of each record before the
+/// first that is later. They end with the fault of the file's own end if no record is later and the tail is strict, or
+/// else with none. So `Lenient` answers over a `RecordReader` up to the time of the bounds.
 pub fn what_is_within_bounds<R: Read>(_reader: &R, _file: &[u8], _bounds: Bounds)
     requires known { (octets : List ℕ) (end : ReadEnd) → R.gives _reader.now octets end
         → (octets ≡ _file.now) × (end ≡ FileEnds) }
