@@ -11,13 +11,12 @@ use Rattle.rs_mrt.specs.declared.cut.Cut.{Cut}
 use Rattle.rs_mrt.specs.declared.fault.MrtFault.{MrtFault}
 use Rattle.rs_mrt.specs.declared.fault.SourceFault.{SourceFault}
 use Rattle.rs_inventory.specs.FileOutline.{OutlinesNothing, TakesRecord, ended, is_recorded_by}
-use Rattle.rs_inventory.specs.Finding.{finding_of}
 use Rattle.rs_inventory.specs.OutlinedRecords.{IsFileOutline}
 use Rattle.rs_inventory.specs.Reading.{GivesRecord, Going}
 use Rattle.rs_inventory.specs.declared.depth.Depth.TheVariants as depths
 use Rattle.rs_inventory.specs.declared.file_outline.Outline.{Outline}
 use Rattle.rs_inventory.specs.declared.peer.Peer.{Peer}
-use Rattle.rs_inventory.proofs.ReadingLemmas.{going-more}
+use Rattle.rs_inventory.proofs.ReadingLemmas.{behind-shown, going-more}
 
 -- records came so far, others may still come behind them, and this is the outline of those that came
 pub record OutlineGoing {S : Type 0} (server : Peer) (comes : S → List MrtRecord → Option SourceFault → Type 0) (initial now : S)
@@ -47,22 +46,13 @@ pub outline-more : {S : Type 0} (server : Peer) (comes : S → List MrtRecord �
     (before after : Outline) (r : MrtRecord) (shown : Option MrtRecord) (end : Option MrtFault)
     → OutlineGoing server comes initial old before → GivesRecord comes old new shown end true → Some r ≡ shown
     → TakesRecord server before r after → OutlineGoing server comes initial new after
-outline-more server comes initial old new before after r shown end so gives is takes =
-    let same : r ≡ gives.0 = ap (λ (o : Option MrtRecord). or_else r o) (is ∙ gives.1) in
-    let behind : (later : List MrtRecord) (fault : Option SourceFault) → comes new later fault → comes old (r ∷ later) fault =
-    subst (λ (x : MrtRecord). (later : List MrtRecord) (fault : Option SourceFault) → comes new later fault → comes old (x ∷ later) fault)
-    (sym same) gives.2 in
-    record {
-      going = going-more depths.Outline comes initial old new before.held after.held (finding_of depths.Outline r) so.going (r, refl, behind)
-          takes.held;
-      uncompressed = takes.uncompressed ∙ so.uncompressed;
-      names_server = takes.names_server ∙ ap (λ (b : Bool). b || is_recorded_by server r) so.names_server
-          ∙ sym (any-push (is_recorded_by server) so.going.done r);
-    }
-  where
-    or_else : MrtRecord → Option MrtRecord → MrtRecord
-    or_else r None = r
-    or_else r (Some x) = x
+outline-more server comes initial old new before after r shown end so gives is takes = record {
+  going = going-more depths.Outline comes initial old new before.held after.held r so.going
+      (behind-shown comes old new r shown end gives is) takes.held;
+  uncompressed = takes.uncompressed ∙ so.uncompressed;
+  names_server = takes.names_server ∙ ap (λ (b : Bool). b || is_recorded_by server r) so.names_server
+      ∙ sym (any-push (is_recorded_by server) so.going.done r);
+}
 
 -- the records end
 pub outline-whole : {R : Type 0} (server : Peer) (comes : RecordReading R → List MrtRecord → Option SourceFault → Type 0)

@@ -12,31 +12,42 @@ use Rattle.rs_mrt.specs.Source.{source_end}
 use Rattle.rs_mrt.specs.declared.bounds.Bounds.{Bounds}
 use Rattle.rs_mrt.specs.declared.bounds.Tail.{Tail}
 use Rattle.rs_mrt.specs.declared.bounds.Tail.TheVariants.{Strict, Lenient}
+use Rattle.rs_mrt.specs.declared.fault.MrtFault.{MrtFault}
 use Rattle.rs_mrt.specs.declared.fault.SourceFault.{SourceFault}
 use Rattle.rs_mrt.specs.declared.fault.SourceFault.TheVariants.{Read}
 use Rattle.rs_inventory.specs.Finding.{finding_of}
 use Rattle.rs_inventory.specs.Compression.{compression_of}
 use Rattle.rs_inventory.specs.Front.{GivesUnlessEnded, IsFrontOf, ReadMayFail, RewoundGives, Taken, is_done, rewound, rewound_may_come}
 use Rattle.rs_inventory.specs.Inventory.{Content, Holds, TakesFinding}
-use Rattle.rs_inventory.specs.Reading.{Going, IsReadingOf, MayBeCompressed, MayFail}
+use Rattle.rs_inventory.specs.Reading.{GivesRecord, Going, IsReadingOf, MayBeCompressed, MayFail}
 use Rattle.rs_inventory.specs.declared.depth.Depth.{Depth}
 use Rattle.rs_inventory.specs.declared.finding.Finding.{Finding}
+
+-- what comes behind the record that is shown may come with it in front
+pub behind-shown : {S : Type 0} (comes : S → List MrtRecord → Option SourceFault → Type 0) (old new : S) (r : MrtRecord)
+    (shown : Option MrtRecord) (end : Option MrtFault)
+    → GivesRecord comes old new shown end true → Some r ≡ shown
+    → (later : List MrtRecord) (fault : Option SourceFault) → comes new later fault → comes old (r ∷ later) fault
+behind-shown comes old new r shown end gives is = λ later fault come.
+    subst (λ (x : MrtRecord). comes old (x ∷ later) fault) (sym (ap (or_else r) (is ∙ gives.1))) (gives.2 later fault come)
+  where
+    or_else : MrtRecord → Option MrtRecord → MrtRecord
+    or_else r None = r
+    or_else r (Some x) = x
 
 -- one record more came
 abbrev pub going-more : {S : Type 0} (depth : Depth) (comes : S → List MrtRecord → Option SourceFault → Type 0) (initial old new : S)
     (before after : Content)
-    (finding : Finding)
+    (r : MrtRecord)
     → Going depth comes initial old before
-    → ((r : MrtRecord) × (finding ≡ finding_of depth r) × ((later : List MrtRecord) (fault : Option SourceFault) → comes new later fault
-    → comes old (r ∷ later) fault))
-    → TakesFinding before finding after → Going depth comes initial new after
-going-more depth comes initial old new before after finding going gives takes = record {
-  done = going.done ++ gives.0 ∷ [];
+    → ((later : List MrtRecord) (fault : Option SourceFault) → comes new later fault → comes old (r ∷ later) fault)
+    → TakesFinding before (finding_of depth r) after → Going depth comes initial new after
+going-more depth comes initial old new before after r going behind takes = record {
+  done = going.done ++ r ∷ [];
   behind = λ later fault come.
-      subst (λ (records : List MrtRecord). comes initial records fault) (sym (append_assoc going.done (gives.0 ∷ []) later))
-      (going.behind (gives.0 ∷ later) fault (gives.2 later fault come));
-  holds = subst (λ (findings : List Finding). Holds findings after)
-      (ap (λ f. map (finding_of depth) going.done ++ f ∷ []) gives.1 ∙ sym (map_push (finding_of depth) going.done gives.0))
+      subst (λ (records : List MrtRecord). comes initial records fault) (sym (append_assoc going.done (r ∷ []) later))
+      (going.behind (r ∷ later) fault (behind later fault come));
+  holds = subst (λ (findings : List Finding). Holds findings after) (sym (map_push (finding_of depth) going.done r))
       (takes (map (finding_of depth) going.done) going.holds);
 }
 

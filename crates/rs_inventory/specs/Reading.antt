@@ -1,5 +1,5 @@
 -- The inventory of the records that a source may give.
-use Rattle.std.specs.Prelude.{◌≡◌, ℕ, Bool, true, false, List, [], ◌∷◌, ◌++◌, map, Option, Some, None}
+use Rattle.std.specs.Prelude.{◌≡◌, ℕ, Bool, true, false, List, [], ◌∷◌, ◌++◌, map, Option, Some}
 use Rattle.rs_mrt.specs.Reader.{ReadEnd}
 use Rattle.rs_mrt.specs.Record.{MrtRecord}
 use Rattle.rs_mrt.specs.Source.{source_end}
@@ -12,7 +12,6 @@ use Rattle.rs_inventory.specs.Inventory.{Content, Holds}
 use Rattle.rs_inventory.specs.declared.compression.Compression.{Compression}
 use Rattle.rs_inventory.specs.declared.depth.Depth.{Depth}
 use Rattle.rs_inventory.specs.declared.depth.Depth.TheVariants.{Outline, Whole}
-use Rattle.rs_inventory.specs.declared.finding.Finding.{Finding}
 
 -- a reader may give octets that begin like a file compressed in this way
 abbrev pub MayBeCompressed : {R : Type 0} → (R → List ℕ → ReadEnd → Type 0) → R → Option Compression → Type 0
@@ -57,12 +56,3 @@ GivesRecord comes old new shown end true =
     (r : MrtRecord) × (shown ≡ Some r)
     × ((later : List MrtRecord) (fault : Option SourceFault) → comes new later fault → comes old (r ∷ later) fault)
 GivesRecord comes old new shown end false = comes old [] (source_end end)
-
--- Some finding: the next record may come, and this is what it adds. None: no record may come, and the records end
--- so.
-abbrev pub GivesFinding : {S : Type 0} → Depth → (S → List MrtRecord → Option SourceFault → Type 0) → S → S
-    → Option MrtFault → Option Finding → Type 0
-GivesFinding depth comes old new end (Some finding) =
-    (r : MrtRecord) × (finding ≡ finding_of depth r)
-    × ((later : List MrtRecord) (fault : Option SourceFault) → comes new later fault → comes old (r ∷ later) fault)
-GivesFinding depth comes old new end None = comes old [] (source_end end)

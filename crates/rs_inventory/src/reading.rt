@@ -6,7 +6,7 @@ ghost use Rattle.rs_mrt.specs.RecordReading.{MayCome, unread_until};
 ghost use Rattle.rs_mrt.specs.Source.{source_end};
 ghost use Rattle.rs_inventory.specs.Inventory.{HoldsNothing};
 ghost use Rattle.rs_inventory.specs.OutlinedRecords.{IsFileOutline};
-ghost use Rattle.rs_inventory.specs.Reading.{GivesFinding, GivesRecord, IsInventoryOf, IsOutlineOf, IsReadingOf};
+ghost use Rattle.rs_inventory.specs.Reading.{GivesRecord, IsInventoryOf, IsOutlineOf, IsReadingOf};
 ghost use Rattle.rs_inventory.specs.Reading.{MayBeCompressed, MayFail};
 ghost use Rattle.rs_inventory.specs.declared.reading.InventoryFault.TheVariants.{Memory, Read};
 
@@ -128,31 +128,15 @@ fn take_records<S: Source + Drop>(
 {
     let mut inventory = Inventory::none(alloc, None);
     let mut end = None;
-    while let Some(finding) = next_finding(alloc, &mut source, depth, &mut end)? {
+    while next_record(&mut source, &mut end)? {
+        let Some(record) = source.shown() else {
+            unreachable!();
+        };
+        let finding = Finding::of(alloc, &record, depth)?;
         inventory.take(alloc, finding)?;
     }
     inventory.take_end(end);
     Ok(inventory)
-}
-
-// Goes to the next record and answers what it adds. If there is none, it answers how the records end.
-fn next_finding<S: Source>(
-    alloc: Global,
-    source: &mut S,
-    depth: Depth,
-    end: &mut Option<MrtFault>,
-) -> Result<Option<Finding>, InventoryFault>
-    ensures gives { IfOk result (GivesFinding depth S.comes source.old source.new end.new) }
-    ensures room { IfOk result (λ found. IfSome found (λ _. S.room source.new + 12 ≤ S.room source.old)) }
-    ensures read { IsErrOf result Read → MayFail S.comes source.old }
-{
-    if !next_record(source, end)? {
-        return Ok(None);
-    }
-    let Some(record) = source.shown() else {
-        unreachable!();
-    };
-    Ok(Some(Finding::of(alloc, &record, depth)?))
 }
 
 // Goes to the next record and answers whether there is one. If there is none, it answers how the records end.
