@@ -5,8 +5,8 @@
 //! Reading order: `recordings` (the whole answer), `recorded_file`, `listing_answer`, `listing_pieces` and `listing_toml`
 //! (what recorded files hold, as a text, as JSON and as a configuration). What a run would meet: `checking` (the whole
 //! answer), `refused` and `plan_words` (why it is refused), `unreadable`. Its lines: `found`, `import_lines` (those of
-//! import policy), `checked_peer` (those of a peer), `treated` (how many UPDATEs are treated as withdrawn) and
-//! `early_close` (where a session closes before the end of its file).
+//! import policy), `checked_peer` (those of a peer). What a line of a peer tells: `treated` (how many UPDATEs are treated
+//! as withdrawn) and `early_close` (where a session closes before the end of its file).
 //! Sessions of a table: `starting` (the whole answer), `chosen` (which table of the file), `listed` (which peers get a
 //! file). Then `session_files` (the files, which are put in place when all are whole) and `sessions` (what is written to
 //! them). Last stand `peer_lines` and `configuration` (the texts), and `table_faults` (why no session is written).

@@ -229,7 +229,7 @@ made-each f (a ∷ as) (b ∷ bs) as_many at =
     made-each f as bs (omega (arith, as_many)) (λ place a b at_a at_b. at (suc place) a b at_a at_b) in
     cc
 
--- a session that ended as is told ended so
+-- how a session ended follows from what it tells
 end-told-is : (told : Told) (reason : Reason) → ClosesFor told.changes reason → reason ≡ reason_in told.changes
     → (end : PeerEnd) → IsEndOfTold told end → end ≡ end_told told
 end-told-is told reason closes last end is =
