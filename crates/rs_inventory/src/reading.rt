@@ -88,7 +88,13 @@ pub fn read_inventory<R: Read + Drop>(
 pub fn read_outline<S: Source + Drop>(
     alloc: Global,
     source: S,
-) -> Result<Inventory, InventoryFault> {
+) -> Result<Inventory, InventoryFault>
+    // It is the outline of records that the source may give, to their end. It tells of no compression.
+    ensures records { IfOk result (IsOutlineOf S.comes source) }
+    ensures uncompressed { IfOk result (λ held. held.compression ≡ None) }
+    // A read is only said to fail if the source may fail.
+    ensures read { IsErrOf result Read → MayFail S.comes source }
+{
     take_records(alloc, source, Depth::Outline)
 }
 
@@ -100,8 +106,10 @@ pub fn outline_of<R: Read + Drop>(
     mut source: RecordReader<R>,
     server: Peer,
 ) -> Result<Outline, InventoryFault>
+    // It is the outline of records that the source may give, to their end. It tells of no compression.
     ensures outline { IfOk result (IsFileOutline server (MayCome R.gives) source) }
     ensures uncompressed { IfOk result (λ outline. outline.held.compression ≡ None) }
+    // A read is only said to fail if the source may fail.
     ensures read { IsErrOf result Read → MayFail (MayCome R.gives) source }
 {
     let mut outline = Outline::none(alloc);
