@@ -49,8 +49,8 @@ impl From<Failed> for InventoryFault {
 }
 
 /// Reads a recorded file within bounds and tells what it holds: whether it is compressed, and of one that isn't what
-/// its records say. Of a compressed one no record is read, so it tells of no record, no peer and no end. Memory is taken
-/// for its peers and their sessions, not for its octets.
+/// its records say. Of a compressed one no record is read, so it tells of no record, no peer and no end. Memory is
+/// taken for its peers and their sessions, not for its octets.
 ///
 /// `Read` is answered if a read fails, or 2^50 octets come of the reader; `Memory` if memory is refused.
 pub fn read_inventory<R: Read + Drop>(
