@@ -48,9 +48,9 @@ impl From<Failed> for InventoryFault {
     }
 }
 
-/// Reads a recorded file and tells what it holds: whether it is compressed, and of one that isn't what its records say,
-/// as far as the bounds go. Of a compressed one no record is read, so it tells of no record, no peer and no end. Memory
-/// is taken for its peers and their sessions, not for its octets.
+/// Reads a recorded file within bounds and tells what it holds: whether it is compressed, and of one that isn't what
+/// its records say. Of a compressed one no record is read, so it tells of no record, no peer and no end. Memory is
+/// taken for its peers and their sessions, not for its octets.
 ///
 /// `Read` is answered if a read fails, or 2^50 octets come of the reader; `Memory` if memory is refused.
 pub fn read_inventory<R: Read + Drop>(
@@ -85,10 +85,7 @@ pub fn read_inventory<R: Read + Drop>(
 /// prefixes it lists, isn't told.
 ///
 /// `Read` is answered if a read fails, or the source takes no more octets; `Memory` if memory is refused.
-pub fn read_outline<S: Source + Drop>(
-    alloc: Global,
-    source: S,
-) -> Result<Inventory, InventoryFault>
+pub fn read_outline<S: Source + Drop>(alloc: Global, source: S) -> Result<Inventory, InventoryFault>
     // It is the outline of records that the source may give, to their end. It tells of no compression.
     ensures records { IfOk result (IsOutlineOf S.comes source) }
     ensures uncompressed { IfOk result (λ held. held.compression ≡ None) }
