@@ -86,12 +86,7 @@ pub fn run<T: Threads + Wait + Sync, O: Outlet, W: Write, R: Read + Send + Drop>
 }
 
 /// `run` over sources of records: `sources` gives the recording of each peer, in the order of the peers.
-pub(crate) fn run_sources<
-    T: Threads + Wait + Sync,
-    O: Outlet,
-    W: Write,
-    S: Source + Send + Drop,
->(
+pub(crate) fn run_sources<T: Threads + Wait + Sync, O: Outlet, W: Write, S: Source + Send + Drop>(
     rt: &T,
     alloc: Global,
     setup: &Setup,
