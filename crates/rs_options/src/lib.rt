@@ -5,6 +5,8 @@
 //! `--version` answers).
 #![tactic(auto)]
 
+mod argument;
+mod command;
 mod options;
 mod standard;
 mod times;
