@@ -38,7 +38,7 @@ Status:
   5  with --strict or --strict-after: a session closed before the end of its file, or there is a note";
 
 // The options, in the order of the help.
-const ROWS: [Row; 11] = [
+static ROWS: [Row; 11] = [
     Row {
         name: "config",
         value: &["FILE"],
