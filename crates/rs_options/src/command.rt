@@ -82,14 +82,14 @@ static ROWS: [Row; 11] = [
         value: &["STANDARD"],
         default: &["rfc4271"],
         help: "Standard by which faults in path attributes are handled: rfc4271 (the first closes \
-    the session) or rfc7606 (a route is withdrawn where that is enough)",
+        the session) or rfc7606 (a route is withdrawn where that is enough)",
         ..OPTION
     },
     Row {
         name: "until",
         value: &["TIME"],
         help: "Reads each file up to the first record that is later, and is the default of --time: seconds since \
-    1970, or as 2026-11-22T06:36:20Z",
+        1970, or as 2026-11-22T06:36:20Z",
         ..OPTION
     },
     Row {
@@ -97,7 +97,7 @@ static ROWS: [Row; 11] = [
         value: &["TAIL"],
         default: &["strict"],
         help: "What becomes of a record that the end of its file cuts short: strict (the session closes and its \
-    routes are gone) or lenient (the record is left out)",
+        routes are gone) or lenient (the record is left out)",
         ..OPTION
     },
     Row {
@@ -105,12 +105,13 @@ static ROWS: [Row; 11] = [
         value: &["LOSSES"],
         default: &["recorded"],
         help: "Which losses of a session count: recorded (those that records of the peer tell) or inferred (those \
-    too that are recorded without its address, and before a session that begins again while it is up)",
+        too that are recorded without its address, and before a session that begins again while it is up)",
         ..OPTION
     },
     Row {
         name: "strict",
-        help: "Writes nothing and ends with status 5 if a session closed before the end of its file, or there is a note",
+        help: "Writes nothing and ends with status 5 if a session closed before the end of its file, or there \
+        is a note",
         ..FLAG
     },
     Row {

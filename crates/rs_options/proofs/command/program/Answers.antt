@@ -12,7 +12,8 @@ pub returns : goal.returns
 returns c =
     let known : map rule_of c.in_ok-arguments.arguments.items ≡ rules = c.in_ok-arguments.ensures.rules in
     let before : app_of c.after_help.result ≡ with_version (new_app (codes "route_server")) =
-    ap app_of_fields c.after_help.ensures ∙ ap app_of_fields c.about.ensures ∙ ap app_of_fields c.version.ensures ∙ ap with_version c.new.ensures.app in
+    ap app_of_fields c.after_help.ensures ∙ ap app_of_fields c.about.ensures
+    ∙ ap app_of_fields c.version.ensures ∙ ap with_version c.new.ensures.app in
     IfOk-weaker c.args-2.result _ _
-        (λ command adds. app-args _ command _ c.in_ok-arguments.ensures.local adds ∙ ap₂ (fold with_rule) before known)
-        c.args-2.ensures
+    (λ command adds. app-args _ command _ c.in_ok-arguments.ensures.local adds ∙ ap₂ (fold with_rule) before known)
+    c.args-2.ensures
