@@ -1,6 +1,6 @@
 -- The command line: the program's command as `clap` knows it, and what its words ask for.
 use Rattle.std.specs.Prelude.{◌≡◌, ◌≢◌, ◌≤◌, ◌⊎◌, ℕ, ⊤, pos, Bool, true, false, List, [], ◌∷◌, Option, None, Some}
-use Rattle.std.specs.Prelude.{IsSome, codes, option_map, string_bytes, unwrap_or}
+use Rattle.std.specs.Prelude.{IsSome, codes, fold, option_map, string_bytes, unwrap_or}
 use Rattle.std.specs.Str.Parse.{digits_value, without_leading_plus}
 use Rattle.clap.specs.Simple.{on_top}
 use Rattle.clap.specs.Words.{App, IsAmong, Kinds, Row, Rule, Text, fault_of, first_of, matches_of, new_app, new_rule}
@@ -23,89 +23,55 @@ use Rattle.rs_options.specs.declared.options.Strictness.TheVariants.{Off, Before
 use Rattle.rs_options.specs.declared.options.WordsFault.{WordsFault}
 use Rattle.rs_options.specs.declared.options.WordsFault.TheVariants.{Help, Refused, Memory}
 
+-- an option of one value
+abbrev pub option : Text → Rule
+option name = record (new_rule name) { long = Some name; action = Some Set; value_names = 1 }
+
 -- an option of one value that must be there
 abbrev pub required_option : Text → Rule
-required_option name = record (new_rule name) { long = Some name; action = Some Set; value_names = 1; required = true }
-
--- the configuration, a path
-abbrev pub config_rule : Rule
-config_rule = required_option (codes "config")
-
--- the folder that takes the dumps, a path that isn't empty: an empty one would name the root
-abbrev pub out_rule : Rule
-out_rule = record (required_option (codes "out")) { parser = Some NonEmptyString }
+required_option name = record (option name) { required = true }
 
 -- an option of one value, with a default for when the words don't give it
 abbrev pub option_or : Text → Text → Rule
-option_or name default =
-    record (new_rule name) { long = Some name; action = Some Set; value_names = 1; defaults = default ∷ [] }
-
--- an option of one value, without a default
-abbrev pub free_option : Text → Rule
-free_option name = record (new_rule name) { long = Some name; action = Some Set; value_names = 1 }
-
--- the Timestamp of the records written: of 32 bits (RFC 6396, section 2)
-abbrev pub time_rule : Rule
-time_rule = record (free_option (codes "time")) { parser = Some (Signed (pos 0) (pos 4294967295)) }
-
--- how many changes wait between two threads: 1 to 65,536; the default is 1,024 (our choice)
-abbrev pub ring_rule : Rule
-ring_rule = record (option_or (codes "ring") (codes "1024")) { parser = Some (Unsigned 1 65536) }
-
--- how many threads have the tables: 1 to 16; the default is 1 (our choice)
-abbrev pub shards_rule : Rule
-shards_rule = record (option_or (codes "shards") (codes "1")) { parser = Some (Unsigned 1 16) }
-
--- the standard by which faults are handled, by its name; the default is RFC 4271 (our choice)
-abbrev pub errors_rule : Rule
-errors_rule = option_or (codes "errors") (codes "rfc4271")
-
--- up to when records are read: a time (our choice)
-abbrev pub until_rule : Rule
-until_rule = free_option (codes "until")
-
--- what is done with a record that is cut short, by its name; the default is strict (our choice)
-abbrev pub tail_rule : Rule
-tail_rule = option_or (codes "tail") (codes "strict")
-
--- which losses count, by their name; the default is those that are recorded (our choice)
-abbrev pub losses_rule : Rule
-losses_rule = option_or (codes "losses") (codes "recorded")
+option_or name default = record (option name) { defaults = default ∷ [] }
 
 -- an option that is there or not
 abbrev pub flag : Text → Rule
 flag name = record (new_rule name) { long = Some name; action = Some SetTrue }
 
--- what a run does if it isn't clean: it has a status of its own, and writes nothing or all (our choice)
-abbrev pub strict_rule : Rule
-strict_rule = flag (codes "strict")
-
-abbrev pub strict_after_rule : Rule
-strict_after_rule = flag (codes "strict-after")
-
--- the three options that every run has
-abbrev pub with_places : App → App
-with_places app = with_rule (with_rule (with_rule app config_rule) out_rule) time_rule
-
--- the three options that say how a run goes
-abbrev pub with_manner : App → App
-with_manner app = with_rule (with_rule (with_rule app ring_rule) shards_rule) errors_rule
-
--- the three options that say which records are read
-abbrev pub with_bounds : App → App
-with_bounds app = with_rule (with_rule (with_rule app until_rule) tail_rule) losses_rule
-
--- the two options for a run that isn't clean
-abbrev pub with_strictness : App → App
-with_strictness app = with_rule (with_rule app strict_rule) strict_after_rule
+-- the rules of the program's eleven options
+abbrev pub rules : List Rule
+rules =
+    -- the configuration, a path
+    required_option (codes "config")
+    -- the folder that takes the dumps, a path that isn't empty: an empty one would name the root
+    ∷ record (required_option (codes "out")) { parser = Some NonEmptyString }
+    -- the Timestamp of the records written: of 32 bits (RFC 6396, section 2)
+    ∷ record (option (codes "time")) { parser = Some (Signed (pos 0) (pos 4294967295)) }
+    -- how many changes wait between two threads: 1 to 65,536; the default is 1,024 (our choice)
+    ∷ record (option_or (codes "ring") (codes "1024")) { parser = Some (Unsigned 1 65536) }
+    -- how many threads have the tables: 1 to 16; the default is 1 (our choice)
+    ∷ record (option_or (codes "shards") (codes "1")) { parser = Some (Unsigned 1 16) }
+    -- the standard by which faults are handled, by its name; the default is RFC 4271 (our choice)
+    ∷ option_or (codes "errors") (codes "rfc4271")
+    -- up to when records are read: a time (our choice)
+    ∷ option (codes "until")
+    -- what is done with a record that is cut short, by its name; the default is strict (our choice)
+    ∷ option_or (codes "tail") (codes "strict")
+    -- which losses count, by their name; the default is those that are recorded (our choice)
+    ∷ option_or (codes "losses") (codes "recorded")
+    -- what a run does if it isn't clean: it has a status of its own, and writes nothing or all (our choice)
+    ∷ flag (codes "strict")
+    ∷ flag (codes "strict-after")
+    ∷ []
 
 -- a command that can print its version
 abbrev pub with_version : App → App
 with_version app = on_top (λ shape. record shape { has_version = true }) app
 
--- the program's command, with its eleven options
+-- the program's command, with its options
 abbrev pub program : App
-program = with_strictness (with_bounds (with_manner (with_places (with_version (new_app (codes "route_server"))))))
+program = fold with_rule (with_version (new_app (codes "route_server"))) rules
 
 -- the number that a text of decimal digits stands for
 abbrev pub number_of : Text → ℕ

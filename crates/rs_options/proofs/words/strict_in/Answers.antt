@@ -1,5 +1,5 @@
 -- What the getters of `clap` give is what its rows hold.
-use Rattle.std.proofs.Common.{rules, ◌∙◌, codes}
+use Rattle.std.proofs.Common.{◌∙◌, codes}
 use Rattle.clap.specs.Words.{found_of}
 use Rattle.clap.proofs.WalkLemmas.{one_text-rows}
 use Rattle.rs_options.proofs.words.strict_in.Goals as goal
