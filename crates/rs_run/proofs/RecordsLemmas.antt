@@ -46,7 +46,7 @@ use Rattle.rs_update.specs.declared.errors.Errors.{Errors}
 use Rattle.rs_patience.proofs.PlaceLemmas.{get-map, some-at}
 use Rattle.rs_run.proofs.EndLemmas.{last-same, reason-is, reason-same}
 use Rattle.rs_run.specs.OverRecords.{end_told, records_read_so, served_of_told, told_in, told_of_files, with_losses_by}
-use Rattle.rs_run.specs.ReadSo.{AreReadSo, Reading, read_so}
+use Rattle.rs_run.specs.ReadSo.{AreReadSo, IsReadSo, Reading, read_so}
 use Rattle.rs_run.specs.SessionEnd.{reason_in}
 
 -- ---- records below a limit
@@ -199,6 +199,37 @@ module _ (errors : Errors) (peer : PeerId) (who : Sought) (file : List ℕ) (fit
 
 -- ---- all files
 
+-- what stands at a place of a list with one more: what stood there, or the last one
+at-pushed : {X : Type 0} (xs : List X) (x y : X) (n : ℕ) → slice_get (xs ++ x ∷ []) n ≡ Some y → (slice_get xs n ≡ Some y)
+    ⊎ ((n ≡ length xs) × (x ≡ y))
+at-pushed [] x y zero e = inr (refl, cc)
+at-pushed [] x y (suc n) e = absurd cc
+at-pushed (z ∷ zs) x y zero e = inl e
+at-pushed (z ∷ zs) x y (suc n) e = elim (at-pushed zs x y n e) [
+  | inl there ↦ inl there
+  | inr last ↦ inr (ap suc last.0, last.1)
+]
+
+-- the next file has its source too
+pub one-more-read : (reading : FileReading) (whose : List Sought) (files : List (List ℕ)) (sources : List Reading) (source : Reading)
+    (here : Sought) (octets : List ℕ) → AreReadSo reading whose files sources
+    → slice_get whose (length sources) ≡ Some here → slice_get files (length sources) ≡ Some octets
+    → IsReadSo reading here octets source → AreReadSo reading whose files (sources ++ source ∷ [])
+one-more-read reading whose files sources source here octets before at_here at_octets is place who file one at_who at_file at_one =
+    elim (at-pushed sources source one place at_one) [
+      | inl there ↦ before place who file one at_who at_file there
+      | inr last ↦
+          let whose_here : Some who ≡ Some here =
+          sym at_who ∙ ap (λ (n : ℕ). slice_get whose n) last.0 ∙ at_here in
+          let octets_here : Some file ≡ Some octets =
+          sym at_file ∙ ap (λ (n : ℕ). slice_get files n) last.0 ∙ at_octets in
+          let same_who : here ≡ who = cc in
+          let same_file : octets ≡ file = cc in
+          subst (λ (w : Sought). IsReadSo reading w file one) same_who
+          (subst (λ (f : List ℕ). IsReadSo reading here f one) same_file
+          (subst (λ (s : Reading). IsReadSo reading here octets s) last.1 is))
+    ]
+
 -- what is made of three lists, place by place
 made-of : {A B C D : Type 0} (f : A → B → C → D) (as : List A) (bs : List B) (cs : List C) (ds : List D) → length bs ≡ length as
     → length cs ≡ length as → length ds ≡ length as
@@ -242,7 +273,7 @@ end-told-is told reason closes last end is =
     ∙ ap (made (length told.changes) told.passed) (same ∙ last)
 
 module _ (errors : Errors) (reading : FileReading) (plan : Plan) (whose : List Sought) (files : List (List ℕ))
-    (sources : List Reading) (all : List Told) (so : AreReadSo reading whose files sources)
+    (sources : List Reading) (all : List Told) (count : length sources ≡ length files) (so : AreReadSo reading whose files sources)
     (fits : (place : ℕ) (file : List ℕ) → slice_get files place ≡ Some file → length file < read_limit)
     (is : AreEach (Tells comes shows errors) (map id_of plan.peers) sources all) where
   abbrev told-here : Peer → Sought → List ℕ → Told
@@ -259,7 +290,7 @@ module _ (errors : Errors) (reading : FileReading) (plan : Plan) (whose : List S
       → told ≡ told-here peer who file
   told-at place peer who file told peer_at who_at file_at told_at =
       let found = source-at place told told_at in
-      let read = so.each place who file found.0 who_at file_at found.1 in
+      let read = so place who file found.0 who_at file_at found.1 in
       let tells = is.each place (id_of peer) found.0 told (get-map id_of plan.peers place peer peer_at) found.1 told_at in
       source-tells errors (id_of peer) who file (fits place file file_at) reading told read.sought
       (subst (λ (s : Reading). Tells comes shows errors (id_of peer) s told) read.value tells)
@@ -267,7 +298,7 @@ module _ (errors : Errors) (reading : FileReading) (plan : Plan) (whose : List S
   pub all-told : length whose ≡ length plan.peers → length files ≡ length plan.peers
       → all ≡ told_of_files errors reading plan.peers whose files
   all-told as_whose as_files =
-      made-of told-here plan.peers whose files all as_whose as_files (is.as_many ∙ so.as_many ∙ as_files) told-at
+      made-of told-here plan.peers whose files all as_whose as_files (is.as_many ∙ count ∙ as_files) told-at
 
   ended-at : ClosesOnce → (served : ServedContent) → IsServedAs plan all served → length all ≡ length plan.peers
       → (place : ℕ) (told : Told) (end : PeerEnd) → slice_get all place ≡ Some told → slice_get served.ends place ≡ Some end
@@ -288,7 +319,7 @@ module _ (errors : Errors) (reading : FileReading) (plan : Plan) (whose : List S
       → (served : ServedContent) → IsServedAs plan all served
       → served ≡ served_of_told plan (told_of_files errors reading plan.peers whose files)
   served-of-records once as_whose as_files served as =
-      let as_many : length all ≡ length plan.peers = is.as_many ∙ so.as_many ∙ as_files in
+      let as_many : length all ≡ length plan.peers = is.as_many ∙ count ∙ as_files in
       let ends : served.ends ≡ map end_told all =
       made-each end_told all served.ends (as.counted ∙ sym as_many) (ended-at once served as as_many) in
       let made : TablesContent → List PeerEnd → ServedContent = λ tables ends. record { tables = tables; ends = ends } in

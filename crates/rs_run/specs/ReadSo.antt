@@ -1,5 +1,5 @@
 -- Recorded files in memory as sources of records, of which nothing was read yet (our choice).
-use Rattle.std.specs.Prelude.{◌≡◌, ℕ, List, Some, length, slice_get}
+use Rattle.std.specs.Prelude.{◌≡◌, ℕ, List, Some, slice_get}
 use Rattle.rs_losses.specs.Laws.{IsSought}
 use Rattle.rs_losses.specs.WithLosses.{Inferring, room_by, unbegun}
 use Rattle.rs_losses.specs.declared.losses.Sought.{Sought}
@@ -27,9 +27,8 @@ pub record IsReadSo (reading : FileReading) (who : Sought) (file : List ℕ) (so
   pub value : source ≡ read_so reading who file
   pub sought : IsSought who
 
--- there is a source for each file, with the losses of the peer at its place
-pub record AreReadSo (reading : FileReading) (whose : List Sought) (files : List (List ℕ)) (sources : List Reading)
-    : Type 0 where
-  pub as_many : length sources ≡ length files
-  pub each : (place : ℕ) (who : Sought) (file : List ℕ) (source : Reading) → slice_get whose place ≡ Some who
-      → slice_get files place ≡ Some file → slice_get sources place ≡ Some source → IsReadSo reading who file source
+-- each source is that of the file at its place, with the losses of the peer there
+abbrev pub AreReadSo : FileReading → List Sought → List (List ℕ) → List Reading → Type 0
+AreReadSo reading whose files sources =
+    (place : ℕ) (who : Sought) (file : List ℕ) (source : Reading) → slice_get whose place ≡ Some who
+    → slice_get files place ≡ Some file → slice_get sources place ≡ Some source → IsReadSo reading who file source

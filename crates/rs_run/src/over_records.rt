@@ -11,6 +11,7 @@ use rs_losses::{Sought, WithLosses};
 use rs_mrt::{FileReading, Lenient, Limits, MemoryReader, MemoryWriter, ReadLimits, RecordReader};
 use rs_options::Options;
 use rs_outlet::{MemoryOutlet, OutletLimits, RunFault};
+use rs_session::a_session_closes_once;
 use rs_setup::Setup;
 use std::alloc::{AllocError, Global};
 use std::sync::Wait;
@@ -42,6 +43,8 @@ pub fn run_over_records<T: Threads + Wait + Sync>(
         (served_of_told setup.now.plan.value (told_of_files options.now.errors reading setup.now.plan.value.peers whose.now
         (map (λ file. file.now) files.now)))) }
 {
+    // It tells that a session has one close, its last change, so that the reason of the close is that of the end.
+    a_session_closes_once();
     let sources = sources_of(alloc, files, whose, reading)?;
     let mut dumps = MemoryOutlet::new(alloc, OutletLimits::none());
     let mut report = MemoryWriter::new(alloc, Limits::none());
@@ -62,6 +65,7 @@ fn sources_of<'a>(
     reading: FileReading,
 ) -> Result<Vec<ReadInMemory<'a>>, AllocError>
     requires { length whose.now ≡ length files.now }
+    ensures as_many { IfOk result (λ sources. length sources.items ≡ length files.now) }
     ensures read_so { IfOk result (λ sources.
         AreReadSo reading whose.now (map (λ file. file.now) files.now) sources.items) }
     ensures room { IfOk result (λ sources. All (λ source. room_of source ≤ 2 ^ 50) sources.items) }

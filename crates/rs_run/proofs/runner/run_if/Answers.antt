@@ -12,10 +12,6 @@ use Rattle.rs_run.specs.RunAnswer.{RunAnswer}
 use Rattle.rs_run.specs.declared.runner.Ran.{Ran}
 use Rattle.rs_run.proofs.runner.run_if.Goals as goal
 
-pub ends_of-requires-clause-one_for_each : goal.ends_of-requires-clause-one_for_each
-ends_of-requires-clause-one_for_each g c =
-    c.in_ok-served.ensures.served.2.counted ∙ sym (ap (λ (held : Plan). length held.peers) c.deref.ensures)
-
 pub write_served-requires-clause-one_for_each : goal.write_served-requires-clause-one_for_each
 write_served-requires-clause-one_for_each g c =
     λ _ _. c.in_ok-served.ensures.served.2.counted ∙ sym (ap (λ (held : Plan). length held.peers) c.deref-2.ensures)
