@@ -2,7 +2,7 @@
 use Rattle.std.specs.Prelude.{◌≡◌, ℕ, ◌==◌, false, List, Some, count_by, slice_get}
 use Rattle.std.specs.Option.{option_map_or}
 use Rattle.rs_choice.specs.Plan.{Peer, Plan}
-use Rattle.rs_inventory.specs.Outlining.{Outlining}
+use Rattle.rs_inventory.specs.OutlinedRecords.{Outlining}
 use Rattle.rs_losses.specs.WithLosses.{Inferring, room_by, unbegun}
 use Rattle.rs_losses.specs.declared.losses.Sought.{Sought}
 use Rattle.rs_mrt.specs.Leniency.{Leniency}

@@ -1,6 +1,6 @@
 -- What sessions tell of files in memory of which only some records are read: for `run_over_records`.
-use Rattle.std.proofs.Common.{◌≡◌, ◌∙◌, sym, ap, subst, refl, ℕ, zero, suc, ◌+◌, ◌-◌, ◌<◌, ◌⊎◌, inl, inr, arith, Bool, true, false, Bor, cond}
-use Rattle.std.proofs.Common.{List, [], ◌∷◌, ◌++◌, Option, Some, None, length, map, append_assoc, nat_lt}
+use Rattle.std.proofs.Common.{◌≡◌, ◌∙◌, sym, ap, subst, refl, ℕ, zero, suc, ◌+◌, ◌-◌, ◌<◌, ◌⊎◌, inl, inr, arith, true, false}
+use Rattle.std.proofs.Common.{List, [], ◌∷◌, ◌++◌, Option, Some, length, map, append_assoc, nat_lt}
 use Rattle.std.specs.Prelude.{slice_get}
 use Rattle.std.specs.List.{zip}
 use Rattle.std.proofs.lemmas.Bool.{cases_Bool, cond-false, cond-true}
@@ -9,26 +9,22 @@ use Rattle.rs_change.specs.Change.{is_read}
 use Rattle.rs_change.specs.declared.word.Reason.{Reason}
 use Rattle.rs_change.specs.declared.word.Reason.TheVariants as reasons
 use Rattle.rs_choice.specs.Plan.{Peer, Plan}
-use Rattle.rs_losses.proofs.ComesLemmas.{comes-first}
-use Rattle.rs_losses.specs.Laws.{IsSought}
 use Rattle.rs_losses.specs.Losses.{with_losses}
-use Rattle.rs_losses.specs.WithLosses.{Inferring, ComesFirst, end_within as end_below, within as below}
-use Rattle.rs_losses.specs.WithLosses.{ComesBy as ComesWithLosses, shown_by, unbegun}
+use Rattle.rs_losses.specs.WithLosses.{ComesFirst, end_within as end_below, within as below}
+use Rattle.rs_losses.specs.WithLosses.{shown_by}
 use Rattle.rs_losses.specs.declared.losses.Sought.{Sought}
-use Rattle.rs_mrt.proofs.lenient.WithinLemmas.{known_within}
 use Rattle.rs_mrt.specs.Bounds.{end_within, records_until}
 use Rattle.rs_mrt.specs.Entry.{front_of}
-use Rattle.rs_mrt.specs.Leniency.{Leniency, ComesBy as ComesLeniently, unread_within}
-use Rattle.rs_mrt.specs.MemoryReading.{MemoryReading, Comes as Given}
+use Rattle.rs_mrt.specs.Leniency.{Leniency}
+use Rattle.rs_mrt.specs.MemoryReading.{MemoryReading}
 use Rattle.rs_mrt.specs.Record.{MrtRecord, octets_of}
-use Rattle.rs_mrt.specs.RecordReading.{RecordReading, MayCome, read_limit}
+use Rattle.rs_mrt.specs.RecordReading.{RecordReading, read_limit}
 use Rattle.rs_mrt.specs.Source.{source_end}
 use Rattle.rs_mrt.specs.declared.bounds.FileReading.{FileReading}
 use Rattle.rs_mrt.specs.declared.fault.SourceFault.{SourceFault}
 use Rattle.rs_mrt.specs.declared.fault.SourceFault.TheVariants.{Read}
 use Rattle.rs_mrt.specs.declared.losses.Losses.{Losses}
 use Rattle.rs_mrt.specs.declared.losses.Losses.TheVariants.{Recorded, Inferred}
-use Rattle.rs_serve.specs.AtHand.{whole_of}
 use Rattle.rs_serve.specs.Identity.{id_of}
 use Rattle.rs_serve.specs.Served.{IsEndOfTold, IsServedAs, ServedContent, tables_of}
 use Rattle.rs_serve.specs.declared.ended.PeerEnd.{PeerEnd}
@@ -46,7 +42,7 @@ use Rattle.rs_update.specs.declared.errors.Errors.{Errors}
 use Rattle.rs_patience.proofs.PlaceLemmas.{get-map, some-at}
 use Rattle.rs_run.proofs.EndLemmas.{last-same, reason-is, reason-same}
 use Rattle.rs_run.specs.OverRecords.{end_told, records_read_so, served_of_told, told_in, told_of_files, with_losses_by}
-use Rattle.rs_run.specs.ReadSo.{AreReadSo, IsReadSo, Reading, read_so}
+use Rattle.rs_run.specs.ReadSo.{AreReadSo, AreShown, IsReadSo, Reading, comes}
 use Rattle.rs_run.specs.SessionEnd.{reason_in}
 
 -- ---- records below a limit
@@ -122,76 +118,76 @@ module _ (errors : Errors) (peer : PeerId) where
       let same : reason ≡ reasons.Read = reason-same closes.time 0 reason reasons.Read
       (last-same closes.before unread.before (close_at closes.time reason) (close_at 0 reasons.Read) both) in
       let read : is_read reason ≡ true = ap is_read same in
-      absurd (sym other ∙ read)
+      let never : false ≡ true = sym other ∙ read in
+      absurd cc
 
 -- ---- one file
 
--- what may come of a file in memory, within its bounds
-abbrev come-within : FileReading → List ℕ → List MrtRecord → Option SourceFault → Type 0
-come-within reading file =
-    ComesLeniently (MayCome Given) (unread_within reading.bounds (whole_of file))
-
-abbrev comes : Reading → List MrtRecord → Option SourceFault → Type 0
-comes w = ComesWithLosses w.losses (λ (l : Leniency (RecordReading MemoryReading)). l.source.shown) (ComesLeniently (MayCome Given)) w
+-- which records are shown of those that come
+pub shown-by : (losses : Losses) (who : Sought) (come : List MrtRecord → Option SourceFault → Type 0) (all : List MrtRecord)
+    (last : Option SourceFault) → ((records : List MrtRecord) (end : Option SourceFault) → come records end → records ≡ all)
+    → ((records : List MrtRecord) (end : Option SourceFault) → come records end → end ≡ last)
+    → (records : List MrtRecord) (end : Option SourceFault) → ComesFirst losses who come records end
+    → AreShown losses who all last records end
+shown-by Recorded who come all last are ends records end comes = (are records end comes, ends records end comes)
+shown-by Inferred who come all last are ends records end comes =
+    let same : comes.all ≡ all = are comes.all comes.last comes.given in (
+      comes.cut ∙ ap (λ (rs : List MrtRecord). below read_limit (with_losses who rs)) same,
+      comes.ends ∙ ap (λ (rs : List MrtRecord). end_below read_limit (with_losses who rs) comes.last) same
+          ∙ ap (end_below read_limit (with_losses who all)) (ends comes.all comes.last comes.given),
+    )
 
 abbrev shows : Reading → Option MrtRecord
 shows w = shown_by w.losses (λ (l : Leniency (RecordReading MemoryReading)). l.source.shown) w
 
-module _ (errors : Errors) (peer : PeerId) (who : Sought) (file : List ℕ) (fits : length file < read_limit) where
+module _ (errors : Errors) (peer : PeerId) (who : Sought) (file : List ℕ) where
   -- the records and the end that come say what those of the file say that are read
   record Says (reading : FileReading) (told : Told) : Type 0 where
     changes : told.changes ≡ (told_in errors reading peer who file).changes
     passed : told.passed ≡ (told_in errors reading peer who file).passed
 
-  within-is : (reading : FileReading) (records : List MrtRecord) (end : Option SourceFault) → come-within reading file records end
-      → (records ≡ map front_of (records_until reading.bounds.until file)) × (end ≡ source_end (end_within reading.bounds file))
-  within-is reading records end come =
-      known_within Given (λ (reader : MemoryReading). reader.failures) reading.bounds (whole_of file) file (λ some last given. given)
-      fits records end come
+  abbrev within : FileReading → List MrtRecord
+  within reading = map front_of (records_until reading.bounds.until file)
 
   says : (reading : FileReading) (told : Told) (reason : Reason) → ClosesFor told.changes reason → is_read reason ≡ false
-      → (losses : Losses) → reading.losses ≡ losses
-      → (records : List MrtRecord) (end : Option SourceFault) → ComesFirst losses who (come-within reading file) records end
+      → (losses : Losses) → reading.losses ≡ losses → (records : List MrtRecord) (end : Option SourceFault)
+      → AreShown losses who (within reading) (source_end (end_within reading.bounds file)) records end
       → told.changes ≡ changes_of errors peer records end → told.passed ≡ passed_of errors peer records → Says reading told
-  says reading told reason closes other Recorded by records end come changes passed =
-      let is = within-is reading records end come in
-      let read : records_read_so reading who file ≡ records = ap (λ (l : Losses). with_losses_by l who
-      (map front_of (records_until reading.bounds.until file))) by ∙ sym is.0 in
+  says reading told reason closes other Recorded by records end are changes passed =
+      let read : records_read_so reading who file ≡ records =
+      ap (λ (l : Losses). with_losses_by l who (within reading)) by ∙ sym are.0 in
       record {
         changes = changes ∙ ap (λ (rs : List MrtRecord). changes_of errors peer rs end) (sym read)
-            ∙ ap (changes_of errors peer (records_read_so reading who file)) is.1;
+            ∙ ap (changes_of errors peer (records_read_so reading who file)) are.1;
         passed = passed ∙ ap (passed_of errors peer) (sym read);
       }
-  says reading told reason closes other Inferred by records end come changes passed =
-      let is = within-is reading come.all come.last come.given in
-      let read : records_read_so reading who file ≡ with_losses who come.all = ap (λ (l : Losses). with_losses_by l who
-      (map front_of (records_until reading.bounds.until file))) by ∙ ap (with_losses who) (sym is.0) in
-      let shown : told.changes ≡ changes_of errors peer (below read_limit (with_losses who come.all))
-      (end_below read_limit (with_losses who come.all) come.last) =
-      changes ∙ ap (λ (rs : List MrtRecord). changes_of errors peer rs end) come.cut
-      ∙ ap (changes_of errors peer (below read_limit (with_losses who come.all))) come.ends in
-      elim (cut-below errors peer read_limit (with_losses who come.all) come.last) [
+  says reading told reason closes other Inferred by records end are changes passed =
+      let all = with_losses who (within reading) in
+      let last = source_end (end_within reading.bounds file) in
+      let read : records_read_so reading who file ≡ all = ap (λ (l : Losses). with_losses_by l who (within reading)) by in
+      let shown : told.changes ≡ changes_of errors peer (below read_limit all) (end_below read_limit all last) =
+      changes ∙ ap (λ (rs : List MrtRecord). changes_of errors peer rs end) are.0
+      ∙ ap (changes_of errors peer (below read_limit all)) are.1 in
+      elim (cut-below errors peer read_limit all last) [
         | inl same ↦ record {
-          changes = shown ∙ same.changes ∙ ap (λ (rs : List MrtRecord). changes_of errors peer rs come.last) (sym read)
-              ∙ ap (changes_of errors peer (records_read_so reading who file)) is.1;
-          passed = passed ∙ ap (passed_of errors peer) come.cut ∙ same.passed ∙ ap (passed_of errors peer) (sym read);
+          changes = shown ∙ same.changes ∙ ap (λ (rs : List MrtRecord). changes_of errors peer rs last) (sym read);
+          passed = passed ∙ ap (passed_of errors peer) are.0 ∙ same.passed ∙ ap (passed_of errors peer) (sym read);
         }
-        | inr unread ↦ absurd (not-unread errors peer (below read_limit (with_losses who come.all))
-            (end_below read_limit (with_losses who come.all) come.last) told.changes reason shown closes other unread)
+        | inr unread ↦ absurd (not-unread errors peer (below read_limit all) (end_below read_limit all last) told.changes reason
+            shown closes other unread)
       ]
 
   -- a session over the file tells what the records say that are read
-  pub source-tells : (reading : FileReading) (told : Told) → IsSought who
-      → Tells comes shows errors peer (read_so reading who file) told → told ≡ told_in errors reading peer who file
-  source-tells reading told sought tells =
-      let source = unread_within reading.bounds (whole_of file) in
+  pub source-tells : (reading : FileReading) (source : Reading) (told : Told) → IsReadSo reading who file source
+      → Tells comes shows errors peer source told → told ≡ told_in errors reading peer who file
+  source-tells reading source told so tells =
       let may = tells.may in
       let records = may.may_read.later in
-      let first = comes-first reading.losses who (λ (l : Leniency (RecordReading MemoryReading)). l.source.shown)
-      (ComesLeniently (MayCome Given)) source records may.end sought may.may_read.come in
+      let first = so records may.end may.may_read.come in
       let changes : told.changes ≡ changes_of errors peer records may.end =
       may.left ∙ ap (λ (rs : List MrtRecord). changes_of errors peer rs may.end) may.may_read.read in
-      let passed : told.passed ≡ passed_of errors peer records = may.counted ∙ ap (passed_of errors peer) may.may_read.read in
+      let counted : told.passed ≡ passed_of errors peer may.records = omega (arith, may.counted) in
+      let passed : told.passed ≡ passed_of errors peer records = counted ∙ ap (passed_of errors peer) may.may_read.read in
       let are = says reading told tells.reason tells.closes tells.read reading.losses refl records may.end first changes passed in
       let telling : List Change → ℕ → Told = λ cs n. record { changes = cs; passed = n } in
       ap (λ (cs : List Change). telling cs told.passed) are.changes
@@ -231,33 +227,33 @@ one-more-read reading whose files sources source here octets before at_here at_o
     ]
 
 -- what is made of three lists, place by place
-made-of : {A B C D : Type 0} (f : A → B → C → D) (as : List A) (bs : List B) (cs : List C) (ds : List D) → length bs ≡ length as
-    → length cs ≡ length as → length ds ≡ length as
-    → ((place : ℕ) (a : A) (b : B) (c : C) (d : D) → slice_get as place ≡ Some a → slice_get bs place ≡ Some b
+made-of : {A B C D : Type 0} (f : A → B → C → D) (xs : List A) (bs : List B) (cs : List C) (ds : List D) → length bs ≡ length xs
+    → length cs ≡ length xs → length ds ≡ length xs
+    → ((place : ℕ) (a : A) (b : B) (c : C) (d : D) → slice_get xs place ≡ Some a → slice_get bs place ≡ Some b
     → slice_get cs place ≡ Some c → slice_get ds place ≡ Some d → d ≡ f a b c)
-    → ds ≡ map (λ (a, (b, c)). f a b c) (zip as (zip bs cs))
+    → ds ≡ map (λ (a, (b, c)). f a b c) (zip xs (zip bs cs))
 made-of f [] bs cs [] as_b as_c as_d at = refl
 made-of f [] bs cs (d ∷ ds) as_b as_c as_d at = absurd (omega (arith, as_d))
-made-of f (a ∷ as) [] cs ds as_b as_c as_d at = absurd (omega (arith, as_b))
-made-of f (a ∷ as) (b ∷ bs) [] ds as_b as_c as_d at = absurd (omega (arith, as_c))
-made-of f (a ∷ as) (b ∷ bs) (c ∷ cs) [] as_b as_c as_d at = absurd (omega (arith, as_d))
-made-of f (a ∷ as) (b ∷ bs) (c ∷ cs) (d ∷ ds) as_b as_c as_d at =
+made-of f (a ∷ xs) [] cs ds as_b as_c as_d at = absurd (omega (arith, as_b))
+made-of f (a ∷ xs) (b ∷ bs) [] ds as_b as_c as_d at = absurd (omega (arith, as_c))
+made-of f (a ∷ xs) (b ∷ bs) (c ∷ cs) [] as_b as_c as_d at = absurd (omega (arith, as_d))
+made-of f (a ∷ xs) (b ∷ bs) (c ∷ cs) (d ∷ ds) as_b as_c as_d at =
     let first : d ≡ f a b c = at 0 a b c d refl refl refl refl in
-    let later : ds ≡ map (λ (a, (b, c)). f a b c) (zip as (zip bs cs)) =
-    made-of f as bs cs ds (omega (arith, as_b)) (omega (arith, as_c)) (omega (arith, as_d))
+    let later : ds ≡ map (λ (a, (b, c)). f a b c) (zip xs (zip bs cs)) =
+    made-of f xs bs cs ds (omega (arith, as_b)) (omega (arith, as_c)) (omega (arith, as_d))
     (λ place a b c d at_a at_b at_c at_d. at (suc place) a b c d at_a at_b at_c at_d) in
     cc
 
 -- what is made of one list, place by place
-made-each : {A B : Type 0} (f : A → B) (as : List A) (bs : List B) → length bs ≡ length as
-    → ((place : ℕ) (a : A) (b : B) → slice_get as place ≡ Some a → slice_get bs place ≡ Some b → b ≡ f a) → bs ≡ map f as
+made-each : {A B : Type 0} (f : A → B) (xs : List A) (bs : List B) → length bs ≡ length xs
+    → ((place : ℕ) (a : A) (b : B) → slice_get xs place ≡ Some a → slice_get bs place ≡ Some b → b ≡ f a) → bs ≡ map f xs
 made-each f [] [] as_many at = refl
 made-each f [] (b ∷ bs) as_many at = absurd (omega (arith, as_many))
-made-each f (a ∷ as) [] as_many at = absurd (omega (arith, as_many))
-made-each f (a ∷ as) (b ∷ bs) as_many at =
+made-each f (a ∷ xs) [] as_many at = absurd (omega (arith, as_many))
+made-each f (a ∷ xs) (b ∷ bs) as_many at =
     let first : b ≡ f a = at 0 a b refl refl in
-    let later : bs ≡ map f as =
-    made-each f as bs (omega (arith, as_many)) (λ place a b at_a at_b. at (suc place) a b at_a at_b) in
+    let later : bs ≡ map f xs =
+    made-each f xs bs (omega (arith, as_many)) (λ place a b at_a at_b. at (suc place) a b at_a at_b) in
     cc
 
 -- how a session ended follows from what it tells
@@ -274,7 +270,6 @@ end-told-is told reason closes last end is =
 
 module _ (errors : Errors) (reading : FileReading) (plan : Plan) (whose : List Sought) (files : List (List ℕ))
     (sources : List Reading) (all : List Told) (count : length sources ≡ length files) (so : AreReadSo reading whose files sources)
-    (fits : (place : ℕ) (file : List ℕ) → slice_get files place ≡ Some file → length file < read_limit)
     (is : AreEach (Tells comes shows errors) (map id_of plan.peers) sources all) where
   abbrev told-here : Peer → Sought → List ℕ → Told
   told-here peer who file = told_in errors reading (id_of peer) who file
@@ -292,8 +287,7 @@ module _ (errors : Errors) (reading : FileReading) (plan : Plan) (whose : List S
       let found = source-at place told told_at in
       let read = so place who file found.0 who_at file_at found.1 in
       let tells = is.each place (id_of peer) found.0 told (get-map id_of plan.peers place peer peer_at) found.1 told_at in
-      source-tells errors (id_of peer) who file (fits place file file_at) reading told read.sought
-      (subst (λ (s : Reading). Tells comes shows errors (id_of peer) s told) read.value tells)
+      source-tells errors (id_of peer) who file reading found.0 told read tells
 
   pub all-told : length whose ≡ length plan.peers → length files ≡ length plan.peers
       → all ≡ told_of_files errors reading plan.peers whose files
@@ -303,7 +297,7 @@ module _ (errors : Errors) (reading : FileReading) (plan : Plan) (whose : List S
   ended-at : ClosesOnce → (served : ServedContent) → IsServedAs plan all served → length all ≡ length plan.peers
       → (place : ℕ) (told : Told) (end : PeerEnd) → slice_get all place ≡ Some told → slice_get served.ends place ≡ Some end
       → end ≡ end_told told
-  ended-at once served as as_many place told end told_at end_at =
+  ended-at once served so_served as_many place told end told_at end_at =
       let found = source-at place told told_at in
       let here : place < length plan.peers = omega (arith, slice_get_within all place told told_at, as_many) in
       let peer = some-at plan.peers place here in
@@ -312,17 +306,17 @@ module _ (errors : Errors) (reading : FileReading) (plan : Plan) (whose : List S
       let close : ClosesLast tells.may.end told.changes =
       subst (ClosesLast tells.may.end) (sym said) (once errors (id_of peer.0) tells.may.records tells.may.end) in
       end-told-is told tells.reason tells.closes (reason-is tells.may.end told.changes tells.reason close tells.closes) end
-      (as.ends_are place told end told_at end_at)
+      (so_served.ends_are place told end told_at end_at)
 
   -- what is served is what the sessions tell of the records that are read
   pub served-of-records : ClosesOnce → length whose ≡ length plan.peers → length files ≡ length plan.peers
       → (served : ServedContent) → IsServedAs plan all served
       → served ≡ served_of_told plan (told_of_files errors reading plan.peers whose files)
-  served-of-records once as_whose as_files served as =
+  served-of-records once as_whose as_files served so_served =
       let as_many : length all ≡ length plan.peers = is.as_many ∙ count ∙ as_files in
       let ends : served.ends ≡ map end_told all =
-      made-each end_told all served.ends (as.counted ∙ sym as_many) (ended-at once served as as_many) in
+      made-each end_told all served.ends (so_served.counted ∙ sym as_many) (ended-at once served so_served as_many) in
       let made : TablesContent → List PeerEnd → ServedContent = λ tables ends. record { tables = tables; ends = ends } in
-      ap (λ (tables : TablesContent). made tables served.ends) as.tables_are
+      ap (λ (tables : TablesContent). made tables served.ends) so_served.tables_are
       ∙ ap (made (tables_of plan (map (λ told. told.changes) all))) ends
       ∙ ap (served_of_told plan) (all-told as_whose as_files)

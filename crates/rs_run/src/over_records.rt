@@ -8,7 +8,10 @@ ghost use Rattle.rs_run.specs.ReadSo.{AreReadSo, IsReadSo, room_of};
 use crate::over_octets::RunOverOctets;
 use crate::runner::run_sources;
 use rs_losses::{Sought, WithLosses};
-use rs_mrt::{FileReading, Lenient, Limits, MemoryReader, MemoryWriter, ReadLimits, RecordReader};
+use rs_mrt::{
+    FileReading, Lenient, Limits, MemoryReader, MemoryWriter, ReadLimits, RecordReader,
+    what_is_within_bounds,
+};
 use rs_options::Options;
 use rs_outlet::{MemoryOutlet, OutletLimits, RunFault};
 use rs_session::a_session_closes_once;
@@ -64,7 +67,8 @@ fn sources_of<'a>(
     whose: &[Sought],
     reading: FileReading,
 ) -> Result<Vec<ReadInMemory<'a>>, AllocError>
-    requires { length whose.now ≡ length files.now }
+    requires as_many { length whose.now ≡ length files.now }
+    requires fits { All (λ file. length file.now < 2 ^ 50) files.now }
     ensures as_many { IfOk result (λ sources. length sources.items ≡ length files.now) }
     ensures read_so { IfOk result (λ sources.
         AreReadSo reading whose.now (map (λ file. file.now) files.now) sources.items) }
@@ -79,10 +83,13 @@ fn sources_of<'a>(
 
 // The records of a file, to be read so, with the losses of a peer.
 fn source_of<'a>(file: &'a [u8], who: Sought, reading: FileReading) -> ReadInMemory<'a>
+    requires { length file.now < 2 ^ 50 }
     ensures read_so { IsReadSo reading who file.now result }
     ensures room { room_of result ≤ 2 ^ 50 }
 {
     let reader = MemoryReader::new(file, ReadLimits::none());
+    // It tells which records of the file are within the bounds, and how they end.
+    what_is_within_bounds(&reader, file, reading.bounds);
     let records = RecordReader::up_to(reader, reading.bounds.until);
     let lenient = Lenient::new(records, reading.bounds.tail);
     WithLosses::new(lenient, reading.losses, who)

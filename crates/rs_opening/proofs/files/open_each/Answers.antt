@@ -10,18 +10,18 @@ all-one_more xs x P = All-push P xs x
 
 pub loop-path-preserved : goal.loop-path-preserved
 loop-path-preserved g c =
-    let pushed : c.push.new.self.items ≡ c.loop-path.files.items ++ c.replayed.result ∷ [] = search rules in
+    let pushed : c.push.new.self.items ≡ c.loop-path.files.items ++ c.replayed-records.result ∷ [] = search rules in
     record {
       one_for_each = omega (
         arith,
         ap length pushed,
-        length-append c.loop-path.files.items (c.replayed.result ∷ []),
+        length-append c.loop-path.files.items (c.replayed-records.result ∷ []),
         c.loop-path.invariant.one_for_each,
       );
-      read_so = rw pushed (one_more_read_so c.args.reading c.args.plan.now c.loop-path.files.items c.replayed.result
+      read_so = rw pushed (one_more_read_so c.args.reading c.args.plan.now c.loop-path.files.items c.replayed-records.result
           c.loop-path.invariant.read_so (search rules));
-      room = rw pushed (all-one_more c.loop-path.files.items c.replayed.result (λ file. room_of file ≤ 2 ^ 50)
-          c.loop-path.invariant.room c.replayed.ensures.room);
+      room = rw pushed (all-one_more c.loop-path.files.items c.replayed-records.result (λ file. room_of file ≤ 2 ^ 50)
+          c.loop-path.invariant.room c.replayed-records.ensures.room);
     }
 
 pub returns-clause-one_for_each : goal.returns-clause-one_for_each

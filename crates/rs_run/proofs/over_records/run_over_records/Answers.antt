@@ -1,13 +1,10 @@
 -- What the sessions tell is what the records say that are read.
-use Rattle.std.proofs.Common.{◌≡◌, ◌∙◌, ◌<◌, ◌^◌, ap, sym, subst, ℕ, Bor, List, [], ◌++◌, Some, length, map}
-use Rattle.std.specs.Prelude.{slice_get}
+use Rattle.std.proofs.Common.{◌≡◌, ◌∙◌, ap, sym, ℕ, Bor, List, ◌++◌, length, map}
 use Rattle.std.proofs.lemmas.List.{length-map}
 use Rattle.rs_keep.specs.Kept.{dumps_of}
 use Rattle.rs_mrt.specs.Memory as memory
-use Rattle.rs_mrt.specs.RecordReading.{read_limit}
 use Rattle.rs_outlet.specs.Outlet as outlet
 use Rattle.rs_outlet.specs.Outlet.{KeptDump}
-use Rattle.rs_patience.proofs.PlaceLemmas.{all-at, map-get}
 use Rattle.rs_serve.specs.Served.{ServedContent}
 use Rattle.rs_run.proofs.RecordsLemmas.{served-of-records}
 use Rattle.rs_run.specs.OverRecords.{served_of_told, told_of_files}
@@ -24,14 +21,10 @@ returns-in-Ok g c =
     let as_files : length files ≡ length plan.peers = length-map c.args.files.now octets ∙ c.requires.one_for_each in
     let count : length c.in_ok-sources.sources.items ≡ length files =
     c.in_ok-sources.ensures.as_many ∙ sym (length-map c.args.files.now octets) in
-    let fits : (place : ℕ) (file : List ℕ) → slice_get files place ≡ Some file → length file < read_limit = λ place file at.
-    let made = map-get octets c.args.files.now place file at in
-    subst (λ (held : List ℕ). length held < read_limit) made.1.1
-    (all-at (λ (f : Bor (List ℕ)). length f.now < 2 ^ 50) c.args.files.now c.requires.fits place made.0 made.1.0) in
     let over = c.in-Ok.ensures.answer.over in
     let is : over.0 ≡ served_of_told plan (told_of_files errors c.args.reading plan.peers c.args.whose.now files) =
     served-of-records errors c.args.reading plan c.args.whose.now files c.in_ok-sources.sources.items over.1.0 count
-    c.in_ok-sources.ensures.read_so fits over.1.1 c.a_session_closes_once.ensures c.requires.whose as_files over.0 over.1.2 in
+    c.in_ok-sources.ensures.read_so over.1.1 c.a_session_closes_once.ensures c.requires.whose as_files over.0 over.1.2 in
     record {
       dumps = over.2.0
           ∙ ap (λ (kept : List KeptDump). kept ++ dumps_of over.0.tables time) (ap (λ (o : outlet.InMemory). o.kept) c.new-dumps.ensures)

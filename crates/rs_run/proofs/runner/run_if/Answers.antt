@@ -1,5 +1,5 @@
 -- What was read is of changes that sessions over the sources may tell, and so are the dumps that are kept.
-use Rattle.std.proofs.Common.{◌≡◌, ◌∙◌, ℕ, Err, Ok, Result, ap, length, refl, subst, sym}
+use Rattle.std.proofs.Common.{◌∙◌, ℕ, Err, Ok, Result, ap, length, refl, subst, sym}
 use Rattle.rs_choice.specs.Plan.{Plan}
 use Rattle.rs_keep.proofs.NamesLemmas.{same-names}
 use Rattle.rs_outlet.specs.declared.run_fault.RunFault.{RunFault}
@@ -14,7 +14,7 @@ use Rattle.rs_run.proofs.runner.run_if.Goals as goal
 
 pub write_served-requires-clause-one_for_each : goal.write_served-requires-clause-one_for_each
 write_served-requires-clause-one_for_each g c =
-    λ _ _. c.in_ok-served.ensures.served.2.counted ∙ sym (ap (λ (held : Plan). length held.peers) c.deref-2.ensures)
+    λ _ _. c.in_ok-served.ensures.served.2.counted ∙ sym (ap (λ (held : Plan). length held.peers) c.deref.ensures)
 
 pub returns-in_err-served-clause-back : goal.returns-in_err-served-clause-back
 returns-in_err-served-clause-back g c = same-names (g.O.Outlet.started c.args.outlet.now)
@@ -73,7 +73,7 @@ returns-in_err-write_served-clause-answer g c =
     c.from_residual-in_err-write_served.ensures.1
     (answers-over Just Over Never Fails O.kept O.failures W.taken W.failures plan time c.args.outlet.now c.write_served.new.outlet
     c.args.report.now c.write_served.new.report (λ Holds holds. (served, c.in_ok-served.ensures.served, holds)) (λ peer no. absurd no)
-    failed (subst P c.deref-2.ensures c.in_err-write_served.ensures.answer))
+    failed (subst P c.deref.ensures c.in_err-write_served.ensures.answer))
 
 pub returns-clause-answer : goal.returns-clause-answer
 returns-clause-answer g c =
@@ -93,4 +93,4 @@ returns-clause-answer g c =
     c.write_served.new.outlet c.args.report.now c.write_served.new.report done in
     answers-over Just Over Never Fails O.kept O.failures W.taken W.failures plan time c.args.outlet.now c.write_served.new.outlet
     c.args.report.now c.write_served.new.report (λ Holds holds. (served, c.in_ok-served.ensures.served, holds)) (λ peer no. absurd no)
-    done (subst P c.deref-2.ensures c.in_ok-write_served.ensures.answer)
+    done (subst P c.deref.ensures c.in_ok-write_served.ensures.answer)

@@ -7,8 +7,8 @@ use Rattle.rs_run.specs.RunAnswer.{RunAnswer}
 use Rattle.rs_run.proofs.RunLemmas.{answers-over}
 use Rattle.rs_run.proofs.runner.run_sources.Goals as goal
 
-pub returns-clause-answer : goal.returns-clause-answer
-returns-clause-answer g c =
+pub returns : goal.returns
+returns g c =
     let O = g.O.Outlet in
     let W = g.W.Write in
     let S = g.S.Source in
@@ -21,7 +21,9 @@ returns-clause-answer g c =
     let Never : ℕ → Type 0 = λ peer. ⊥ in
     let P : Plan → Type 0 = λ held. RunAnswer Just Never O.kept O.failures W.taken W.failures held time c.args.outlet.now
     c.write_served.new.outlet c.args.report.now c.write_served.new.report c.write_served.result in
-    answers-over Just Over Never (SourceFailsAt S.comes S.shows errors plan c.args.sources.items) O.kept O.failures W.taken
-    W.failures plan time c.args.outlet.now c.write_served.new.outlet c.args.report.now c.write_served.new.report
-    (λ Holds holds. (served, c.in_ok-served.ensures.served, holds)) (λ peer no. absurd no)
-    c.write_served.result (subst P c.deref.ensures c.write_served.ensures.answer)
+    record {
+      answer = answers-over Just Over Never (SourceFailsAt S.comes S.shows errors plan c.args.sources.items) O.kept O.failures W.taken
+          W.failures plan time c.args.outlet.now c.write_served.new.outlet c.args.report.now c.write_served.new.report
+          (λ Holds holds. (served, c.in_ok-served.ensures.served, holds)) (λ peer no. absurd no)
+          c.write_served.result (subst P c.deref.ensures c.write_served.ensures.answer);
+    }

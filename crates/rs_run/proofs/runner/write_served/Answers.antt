@@ -1,5 +1,5 @@
 -- The dumps of what is served are kept, and its report is written.
-use Rattle.std.proofs.Common.{◌≡◌, ◌∙◌, List, ℕ, string_bytes, refl, subst}
+use Rattle.std.proofs.Common.{List, ℕ, string_bytes, refl, subst}
 use Rattle.rs_mrt.specs.Stream.{AppendsBeginning}
 use Rattle.rs_run.proofs.RunLemmas.{done-answers, keep-stop-answers, report-failed-answers}
 use Rattle.std.specs.Io.KnownBytes.{Appends}
