@@ -21,6 +21,7 @@
 mod attributes;
 mod inventories;
 mod losses;
+mod outlines;
 mod places;
 mod records;
 mod refusals;

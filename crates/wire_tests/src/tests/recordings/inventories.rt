@@ -4,7 +4,7 @@
 
 use super::{check_rows, file_of};
 use rs_inventory::{InventoryFault, read_inventory};
-use rs_mrt::{MemoryReader, ReadLimits};
+use rs_mrt::{Bounds, MemoryReader, ReadLimits};
 use std::alloc::Global;
 use std::test::*;
 
@@ -351,7 +351,7 @@ fn fails(alloc: Global, file: &[u8], count: usize) -> bool {
         piece: 9,
         ..ReadLimits::none()
     };
-    let answer = read_inventory(alloc, MemoryReader::new(file, limits));
+    let answer = read_inventory(alloc, MemoryReader::new(file, limits), Bounds::none());
     matches!(answer, Err(InventoryFault::Read))
 }
 

@@ -2,7 +2,7 @@
 
 use super::super::said::Said;
 use rs_inventory::{Inventory, Kind, Peer, PeerRecords, read_inventory};
-use rs_mrt::{MemoryReader, ReadLimits};
+use rs_mrt::{Bounds, MemoryReader, ReadLimits};
 use std::alloc::Global;
 use std::net::Ipv4Addr;
 
@@ -54,7 +54,8 @@ fn add_ends(said: &mut Said, held: &Inventory) {
 
 /// Appends, line by line, what a file holds when its reader has these limits.
 pub fn add_told(said: &mut Said, alloc: Global, file: &[u8], limits: ReadLimits) {
-    let Ok(held) = read_inventory(alloc, MemoryReader::new(file, limits)) else {
+    let reader = MemoryReader::new(file, limits);
+    let Ok(held) = read_inventory(alloc, reader, Bounds::none()) else {
         return said.refuse();
     };
     let records = held.records();
