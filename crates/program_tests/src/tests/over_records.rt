@@ -7,7 +7,9 @@ use rs_mrt::{Bounds, FileReading, Losses, Tail};
 use rs_run::run_over_records;
 use rs_setup::read_setup;
 use spelled_in_hex::octets;
+use std::sync::Wait;
 use std::test::Fail;
+use std::thread::Threads;
 
 // Two peers, each with a file.
 const EXCHANGE: &str = r#"
@@ -88,10 +90,31 @@ const ROWS: [(Option<u32>, Tail, Losses, usize, &str); 5] = [
     ),
 ];
 
+// How many octets the files have at most.
+const MOST: usize = 1000;
+
+// The report of a run over these files that are read so.
+fn reported<T: AllocGlobal + Threads + Wait + Sync>(
+    rt: &T,
+    reading: FileReading,
+    of_a: &[u8],
+    of_b: &[u8],
+) -> Result<Vec<u8>, Fail> {
+    let alloc = rt.alloc();
+    let setup = read_setup(alloc, EXCHANGE.as_bytes())?;
+    if setup.plan.count() != 2 || of_a.len() > MOST || of_b.len() > MOST {
+        return Err(Fail::new("another number of peers, or longer files"));
+    }
+    let options = options(alloc, 1, 1)?;
+    match run_over_records(rt, alloc, &setup, &[of_a, of_b], &WHOSE, reading, &options) {
+        Ok(ran) => Ok(ran.report),
+        Err(_) => Err(Fail::new("the run fails")),
+    }
+}
+
 #[test]
 fn a_run_over_records_gives_what_is_read_of_the_octets(rt: HostRuntime) -> Result<(), Fail> {
     let alloc = rt.alloc();
-    let setup = read_setup(alloc, EXCHANGE.as_bytes())?;
     let of_a = octets(alloc, &[UPDATE_OF_A, STATE_OF_A])?;
     let of_b = octets(alloc, &[UPDATE_OF_B])?;
     for (until, tail, losses, cut, report) in ROWS {
@@ -99,12 +122,9 @@ fn a_run_over_records_gives_what_is_read_of_the_octets(rt: HostRuntime) -> Resul
             bounds: Bounds { until, tail },
             losses,
         };
-        let files = [of_a.as_slice(), &of_b[..of_b.len() - cut]];
-        let options = options(alloc, 1, 1)?;
-        let Ok(ran) = run_over_records(&rt, alloc, &setup, &files, &WHOSE, reading, &options) else {
-            return Err(Fail::new("the run fails"));
-        };
-        assert_eq!(rt; ran.report.as_slice(), report.as_bytes());
+        let len = of_b.len().saturating_sub(cut);
+        let found = reported(&rt, reading, &of_a, &of_b[..len])?;
+        assert_eq!(rt; found.as_slice(), report.as_bytes());
     }
     Ok(())
 }
