@@ -151,6 +151,7 @@ fn closes_line(alloc: Global, served: &Served, closed: usize) -> Result<String, 
     let mut text = String::from_str(alloc, "closed before the end of its file:")?;
     let mut named: usize = 0;
     for (peer, end) in served.ends().iter().enumerate() {
+        // There is a peer for each end: that it is below the count lets the prover name it.
         if named < NAMED && closes_early(end) && peer < tables.count() {
             let separator = if named == 0 { "" } else { "," };
             let (name, reason) = (&tables.plan().peer(peer).name, ReasonText(end.reason));

@@ -101,8 +101,8 @@ fn outlines_for(alloc: Global, setup: &Setup, bounds: Bounds, strict: Strictness
     }
 }
 
-// Runs over the records of opened files: dumps go to the folder of the options, the report to standard output, if `is_wanted` says so
-// by what is served.
+// Runs over the records of opened files: dumps go to the folder of the options, the report to standard output, if
+// `is_wanted` says so by what is served.
 fn run_over<
     R: AllocGlobal + Files + Print + Threads + Wait + Sync,
     S: Source + Send + Drop,
