@@ -5,6 +5,7 @@ use Rattle.std.specs.List.{list_any, list_all, flat_map, enumerate_from}
 use Rattle.std.specs.Char.{is_ascii_alphanumeric}
 use Rattle.std.specs.Str.{bytes_eq}
 use Rattle.rs_types.specs.FirstFault.{first_fault}
+use Rattle.rs_types.specs.declared.peer_id.PeerId.{PeerId}
 use Rattle.rs_import.specs.Import.{ImportPolicy}
 use Rattle.rs_choice.specs.declared.plan.Local.{Local}
 use Rattle.rs_choice.specs.declared.plan.PeerSpec.{PeerSpec}
@@ -38,6 +39,10 @@ peer_of spec = record {
   preference = spec.preference;
   refuse_from = map (λ name. string_bytes name) spec.refuse_from.items;
 }
+
+-- A recording identifies a peer by its address and its AS number (RFC 6396, section 4.4).
+abbrev pub id_of : Peer → PeerId
+id_of peer = record { address = peer.address; asn = peer.asn }
 
 -- an octet that a name may have: a letter, a digit or one of two marks
 abbrev pub is_name_octet : ℕ → Bool

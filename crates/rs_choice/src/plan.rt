@@ -1,6 +1,9 @@
 //! The plan of an exchange: the server and its peers, as they are configured.
 
-use rs_types::Prefix;
+ghost use Rattle.std.specs.Prelude.{◌≡◌};
+ghost use Rattle.rs_choice.specs.Plan.{id_of, peer_of};
+
+use rs_types::{PeerId, Prefix};
 
 /// The most peers that a plan may have.
 pub const MAX_PEERS: usize = 256;
@@ -26,6 +29,18 @@ pub struct Local {
     pub subnet: Option<Prefix>,
 }
 
+impl Local {
+    /// The server as a recording identifies it: by its address and its AS number (RFC 6396, section 4.4).
+    pub fn peer_id(&self) -> PeerId
+        ensures { result ≡ record { address = self.now.address; asn = self.now.asn } }
+    {
+        PeerId {
+            address: self.address,
+            asn: self.asn,
+        }
+    }
+}
+
 /// A peer: a neighbour that sends routes, and a client with a table of its own. Peers are numbered from 0 in
 /// their order.
 #[derive(Debug, Drop)]
@@ -42,4 +57,16 @@ pub struct PeerSpec {
     pub preference: u32,
     /// The names of the peers whose routes it refuses. Its own name and repeated names have no effect.
     pub refuse_from: Vec<String>,
+}
+
+impl PeerSpec {
+    /// The peer as a recording identifies it: by its address and its AS number (RFC 6396, section 4.4).
+    pub fn peer_id(&self) -> PeerId
+        ensures { result ≡ id_of (peer_of self.now) }
+    {
+        PeerId {
+            address: self.address,
+            asn: self.asn,
+        }
+    }
 }

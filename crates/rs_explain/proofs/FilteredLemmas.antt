@@ -7,7 +7,7 @@ use Rattle.rs_update.specs.AsPath.{numbers_of}
 use Rattle.rs_update.specs.IpPrefix.{IpPrefix}
 use Rattle.rs_update.specs.FirstFault.{first_fault}
 use Rattle.rs_update.specs.PathAttributes.{PathAttributes, PathSegment}
-use Rattle.rs_import.specs.declared.as_range.AsRange.{AsRange}
+use Rattle.rs_types.specs.declared.as_range.AsRange.{AsRange}
 use Rattle.rs_import.specs.declared.filter.Filter.{Filter}
 use Rattle.rs_import.specs.declared.filter.Filter.TheVariants as filters
 use Rattle.rs_import.specs.AsRanges.{is_in_ranges}

@@ -7,10 +7,10 @@ use crate::treated::treated_at;
 use rs_choice::PeerSpec;
 use rs_glass_shell::{Unanswered, close_text};
 use rs_host::{Unready, on_one_line};
-use rs_inventory::{Inventory, Kind, Peer, PeerRecords};
-use rs_notes::{Close, Contents, peer_of};
+use rs_inventory::{Inventory, Kind, PeerId, PeerRecords};
+use rs_notes::{Close, Contents};
 use rs_query::CheckQuery;
-use rs_session::{PeerId, is_cut_short};
+use rs_session::is_cut_short;
 use rs_update::Errors;
 use std::alloc::AllocError;
 use std::fs::Files;
@@ -28,16 +28,8 @@ pub(crate) fn add_peer<R: AllocGlobal + Files>(
     let held = contents.map(|contents| &contents.held);
     add_records(rt, text, spec, path, held, query)?;
     match held {
-        Some(held) if may_close(held, peer_of(spec)) => add_close(rt, text, spec, path, query),
+        Some(held) if may_close(held, spec.peer_id()) => add_close(rt, text, spec, path, query),
         _ => Ok(Close::AtEnd),
-    }
-}
-
-// A peer as records name it.
-fn id_of(spec: &PeerSpec) -> PeerId {
-    PeerId {
-        address: spec.address,
-        asn: spec.asn,
     }
 }
 
@@ -52,7 +44,7 @@ fn add_records<R: AllocGlobal + Files>(
 ) -> Result<(), Unready> {
     let shown = on_one_line(rt.alloc(), path)?;
     let found = match held {
-        Some(held) => match held.peers().get(&peer_of(spec)) {
+        Some(held) => match held.peers().get(&spec.peer_id()) {
             Some(records) => {
                 let treated = treated_of(rt, spec, path, records, query)?;
                 Found::Records(&shown, records, treated)
@@ -75,12 +67,12 @@ fn treated_of<R: AllocGlobal + Files>(
     match query.errors {
         Errors::Rfc4271 => Ok(None),
         Errors::Rfc7606 if records.faulty() == 0 => Ok(Some(0)),
-        Errors::Rfc7606 => Ok(Some(treated_at(rt, path, id_of(spec), query)?)),
+        Errors::Rfc7606 => Ok(Some(treated_at(rt, path, spec.peer_id(), query)?)),
     }
 }
 
 // Whether the session of a peer may close before the end of its file.
-fn may_close(held: &Inventory, peer: Peer) -> bool {
+fn may_close(held: &Inventory, peer: PeerId) -> bool {
     if held.end().is_some() || held.count_of(Kind::CutShort) > 0 {
         return true;
     }
@@ -98,7 +90,7 @@ fn add_close<R: AllocGlobal + Files>(
     path: &str,
     query: &CheckQuery,
 ) -> Result<Close, Unanswered> {
-    let Some(close) = early_close_at(rt, path, id_of(spec), query)? else {
+    let Some(close) = early_close_at(rt, path, spec.peer_id(), query)? else {
         return Ok(Close::AtEnd);
     };
     let reason = close_text(rt.alloc(), close.reason)?;

@@ -2,7 +2,7 @@
 
 use crate::recorded_file::RecordedFile;
 use rs_host::{Utc, on_one_line};
-use rs_inventory::{Compression, Inventory, Kind, Peer, PeerRecords, SessionTimes};
+use rs_inventory::{Compression, Inventory, Kind, PeerId, PeerRecords, SessionTimes};
 use rs_mrt::MrtFault;
 use rs_rows::{Column, Form, RowWriter};
 use serde_json::Value;
@@ -204,7 +204,7 @@ fn hand_peers(rows: &mut RowWriter<'_>, inventory: &Inventory) {
 }
 
 // Hands over a peer, and in text a line of each of its sessions.
-fn hand_peer(row: &mut RowWriter<'_>, peer: Peer, records: &PeerRecords) {
+fn hand_peer(row: &mut RowWriter<'_>, peer: PeerId, records: &PeerRecords) {
     let alloc = row.alloc();
     row.shown("address", &Ipv4Addr::from_bits(peer.address));
     row.number("as", u64::from(peer.asn));
@@ -267,7 +267,7 @@ fn sessions_value(alloc: Global, sessions: &[SessionTimes]) -> Result<Value, All
 }
 
 // The line of a session, and one of a loss that takes no route away, as its record lacks the peer's address.
-fn session_lines(alloc: Global, peer: Peer, session: SessionTimes) -> Result<String, AllocError> {
+fn session_lines(alloc: Global, peer: PeerId, session: SessionTimes) -> Result<String, AllocError> {
     let up = time_text(alloc, session.up)?;
     let down = time_text(alloc, session.down)?;
     let mut lines = format!(in alloc; "  session  up {up:<19}  down {down}\n")?;

@@ -6,14 +6,14 @@
 
 use crate::recorded_file::RecordedFile;
 use rs_glass_shell::add_shell_word;
-use rs_inventory::{Inventory, Peer, PeerRecords};
+use rs_inventory::{Inventory, PeerId, PeerRecords};
 use std::alloc::{AllocError, Global};
 use std::collections::BTreeMap;
 
 /// In which files peers have messages.
 #[derive(Drop)]
 pub(crate) struct Pieces {
-    peers: BTreeMap<Peer, Told>,
+    peers: BTreeMap<PeerId, Told>,
     // The numbers of all files, by their first times.
     order: Vec<usize>,
 }
@@ -62,7 +62,7 @@ impl Pieces {
     pub(crate) fn is_told_elsewhere(
         &self,
         number: usize,
-        peer: Peer,
+        peer: PeerId,
         records: &PeerRecords,
     ) -> bool {
         match self.peers.get(&peer).and_then(|told| told.first) {
@@ -72,7 +72,7 @@ impl Pieces {
     }
 
     /// Whether a peer has messages in several files.
-    pub(crate) fn has_pieces(&self, peer: Peer) -> bool {
+    pub(crate) fn has_pieces(&self, peer: PeerId) -> bool {
         match self.peers.get(&peer) {
             Some(told) => told.pieces > 1,
             None => false,
@@ -80,7 +80,7 @@ impl Pieces {
     }
 
     /// The BGP Identifier of a peer's last OPEN in all files.
-    pub(crate) fn identifier(&self, peer: Peer) -> Option<u32> {
+    pub(crate) fn identifier(&self, peer: PeerId) -> Option<u32> {
         self.peers.get(&peer)?.identifier
     }
 

@@ -8,7 +8,7 @@
 use crate::listing_pieces::{Pieces, is_transient};
 use crate::recorded_file::RecordedFile;
 use rs_glass_shell::{PeerNames, quoted};
-use rs_inventory::{Peer, PeerRecords};
+use rs_inventory::{PeerId, PeerRecords};
 use std::alloc::{AllocError, Global};
 use std::collections::BTreeSet;
 use std::net::Ipv4Addr;
@@ -49,7 +49,7 @@ impl Configuration {
     // Adds the server: the first recorder that is named.
     fn add_server(&mut self, files: &[RecordedFile]) -> Result<(), AllocError> {
         let recorder = files.iter().find_map(|file| file.inventory.recorder());
-        let Some(Peer { address, asn }) = recorder else {
+        let Some(PeerId { address, asn }) = recorder else {
             return writeln!(
                 self.text,
                 "# no message of a session with four-octet AS numbers is recorded"
@@ -97,7 +97,7 @@ impl Configuration {
     // Adds a peer, or a comment if it can't be one.
     fn add_peer(
         &mut self,
-        peer: Peer,
+        peer: PeerId,
         records: &PeerRecords,
         path: &str,
     ) -> Result<(), AllocError> {
@@ -126,7 +126,7 @@ impl Configuration {
     }
 
     // Adds the file of a peer: that of its pieces, joined; of a file that is there only for now a comment.
-    fn add_path(&mut self, peer: Peer, path: &str) -> Result<(), AllocError> {
+    fn add_path(&mut self, peer: PeerId, path: &str) -> Result<(), AllocError> {
         if self.pieces.has_pieces(peer) {
             writeln!(self.text, "file = \"{JOINED}\"")
         } else if is_transient(path) {
@@ -140,7 +140,7 @@ impl Configuration {
     }
 
     // Adds the BGP Identifier of a peer's last OPEN.
-    fn add_identifier(&mut self, peer: Peer) -> Result<(), AllocError> {
+    fn add_identifier(&mut self, peer: PeerId) -> Result<(), AllocError> {
         match self.pieces.identifier(peer) {
             Some(identifier) => {
                 let identifier = Ipv4Addr::from_bits(identifier);

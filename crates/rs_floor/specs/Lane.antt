@@ -6,7 +6,7 @@ use Rattle.rs_mrt.specs.Source.{source_end}
 use Rattle.rs_session.specs.Change.{Change, change_of, is_close}
 use Rattle.rs_session.specs.FileChanges.{changes_in}
 use Rattle.rs_session.specs.Stage.{Stage, to_read, changes_left}
-use Rattle.rs_session.specs.declared.peer.PeerId.{PeerId}
+use Rattle.rs_types.specs.declared.peer_id.PeerId.{PeerId}
 use Rattle.rs_change.specs.declared.word.Word.{Word}
 use Rattle.rs_floor.specs.Schedule.{at_start, after_turn, after_turns}
 use Rattle.rs_floor.specs.declared.counts.Counts.{Counts}

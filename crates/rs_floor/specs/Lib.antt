@@ -9,7 +9,6 @@ pub mod Laws  -- what holds of these, and of the dumps
 pub mod ServeFiles  -- what a run answers over files at hand
 pub use Rattle.rs_serve.specs.ServeAnswer
 pub use Rattle.rs_serve.specs.Served
-pub use Rattle.rs_serve.specs.Identity
 pub use Rattle.rs_serve.specs.Outcome
 -- What the contracts name of the crates below:
 pub use Rattle.rs_table.specs.Content

@@ -7,7 +7,6 @@ ghost use Rattle.rs_floor.specs.FloorContent.{AreFresh, FitAll};
 use crate::counts::Counts;
 use crate::lane::Lane;
 use rs_choice::Exchange;
-use rs_serve::peer_id;
 use std::alloc::{AllocError, Global};
 
 // A lane for each peer, in the order of the peers. Refused if memory is.
@@ -26,7 +25,7 @@ pub(crate) fn open_lanes<'a>(
     let mut lanes = Vec::with_capacity(alloc, files.len())?;
     for (number, file) in files.iter().enumerate() {
         let peer = plan.peer(number);
-        lanes.push(Lane::new(alloc, file, peer_id(peer), capacity)?)?;
+        lanes.push(Lane::new(alloc, file, peer.peer_id(), capacity)?)?;
     }
     Ok(lanes)
 }

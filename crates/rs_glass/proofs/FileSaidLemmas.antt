@@ -13,7 +13,7 @@ use Rattle.rs_session.specs.Change.{Change, ChangeBody, Closed, is_read}
 use Rattle.rs_session.specs.Effect.{effect_of}
 use Rattle.rs_session.specs.FileChanges.{changes_by, changes_of, closing, ends, open_records}
 use Rattle.rs_session.specs.Stage.{Comes, fresh, passed_in_the_end}
-use Rattle.rs_session.specs.declared.peer.PeerId.{PeerId}
+use Rattle.rs_types.specs.declared.peer_id.PeerId.{PeerId}
 use Rattle.rs_change.specs.declared.word.Reason.{Reason}
 use Rattle.rs_change.specs.declared.word.Reason.TheVariants as reasons
 use Rattle.rs_glass.specs.FileSaid.{SaidChange, all_said_by, closing_at_end, said_in, said_last, said_of}

@@ -7,7 +7,7 @@ use Rattle.rs_mrt.specs.Record.{MrtRecord}
 use Rattle.rs_choice.specs.Plan.{Plan}
 use Rattle.rs_session.specs.Change.{Change}
 use Rattle.rs_session.specs.Stage.{Comes}
-use Rattle.rs_session.specs.declared.peer.PeerId.{PeerId}
+use Rattle.rs_types.specs.declared.peer_id.PeerId.{PeerId}
 use Rattle.rs_glass.specs.FileSaid.{SaidChange, all_said_by, cause_in, counts_at, moment_of}
 use Rattle.rs_glass.specs.Happened.{AreHappeningsOf, AreWhole, HappeningContent, IsSaidWhole, contents_of, happened_among, happened_in}
 use Rattle.rs_glass.specs.Happened.{happens_at, happens_behind, happens_on}

@@ -8,12 +8,12 @@ use Rattle.std.specs.List.{enumerate_from}
 use Rattle.rs_update.specs.IpPrefix.{IpPrefix}
 use Rattle.rs_mrt.specs.Record.{MrtRecord}
 use Rattle.rs_session.specs.Stage.{Comes}
-use Rattle.rs_choice.specs.Plan.{Peer, Plan}
+use Rattle.rs_choice.specs.Plan.{Peer, Plan, id_of}
 use Rattle.rs_table.specs.Content.{TablesContent}
 use Rattle.rs_explain.specs.Explanations.{IsExplanation}
 use Rattle.rs_glass.specs.Behind.{each_behind}
 use Rattle.rs_glass.specs.Explained.{AreExplained}
-use Rattle.rs_glass.specs.Recorded.{IsFaultAmong, IsFaultOf, id_of}
+use Rattle.rs_glass.specs.Recorded.{IsFaultAmong, IsFaultOf}
 use Rattle.rs_glass.specs.declared.answers.Answer.{Answer}
 use Rattle.rs_glass.specs.declared.fault.GlassFault.{GlassFault}
 use Rattle.rs_glass.specs.declared.fault.GlassFault.TheVariants.{Memory, Read}

@@ -8,7 +8,7 @@ use Rattle.rs_session.specs.Change.{is_read}
 use Rattle.rs_session.specs.Effect.{RecordEffect, PassesOver, Gives, Ends, effect_of}
 use Rattle.rs_session.specs.FileChanges.{changes_by, close_at, ends, reason_at_end}
 use Rattle.rs_session.specs.Stage.{Comes}
-use Rattle.rs_session.specs.declared.peer.PeerId.{PeerId}
+use Rattle.rs_types.specs.declared.peer_id.PeerId.{PeerId}
 use Rattle.rs_glass.specs.FileSaid.{SaidChange, all_said_by, closing_at_end, said_of}
 use Rattle.rs_glass.specs.Happened.{AreHappeningsOf}
 use Rattle.rs_glass.specs.Listed.{FailsNext, GoesOnBy, IsListing, Lists, TakesClose, TakesNext, TakesRecord}

@@ -4,12 +4,12 @@ use Rattle.std.specs.Prelude.{IfOk, IfErr, Result, Ok, Err, slice_get}
 use Rattle.std.proofs.lemmas.Option.{slice_get_within}
 use Rattle.rs_mrt.specs.Record.{MrtRecord}
 use Rattle.rs_session.specs.Stage.{Comes}
-use Rattle.rs_session.specs.declared.peer.PeerId.{PeerId}
-use Rattle.rs_choice.specs.Plan.{Plan}
+use Rattle.rs_types.specs.declared.peer_id.PeerId.{PeerId}
+use Rattle.rs_choice.specs.Plan.{Plan, id_of}
 use Rattle.rs_table.specs.Content.{RibContent, TablesContent, rib_of}
 use Rattle.rs_glass.specs.Heard.{AreHeard, AreRecordings, IsFaultHeard, IsHeard, IsRecording}
 use Rattle.rs_table.specs.Left.{Routes}
-use Rattle.rs_glass.specs.Recorded.{AreSaidOf, IsFaultAmong, IsFaultOf, IsSaidOf, id_of}
+use Rattle.rs_glass.specs.Recorded.{AreSaidOf, IsFaultAmong, IsFaultOf, IsSaidOf}
 use Rattle.rs_glass.specs.declared.fault.GlassFault.{GlassFault}
 use Rattle.rs_glass.specs.declared.fault.GlassFault.TheVariants.{Memory, Read}
 use Rattle.rs_glass.specs.declared.hearing.Heard.{Heard}

@@ -7,7 +7,7 @@ use Rattle.rs_mrt.specs.declared.fault.SourceFault.{SourceFault}
 use Rattle.rs_session.specs.Change.{Change}
 use Rattle.rs_session.specs.Effect.{effect_of}
 use Rattle.rs_session.specs.FileChanges.{changes_by, close_at, ends, open_records, reason_at_end}
-use Rattle.rs_session.specs.declared.peer.PeerId.{PeerId}
+use Rattle.rs_types.specs.declared.peer_id.PeerId.{PeerId}
 use Rattle.rs_change.specs.declared.word.Reason.{Reason}
 use Rattle.rs_update.specs.declared.errors.Errors.{Errors}
 use Rattle.rs_glass.specs.Causes.{cause_behind}

@@ -9,14 +9,14 @@ use Rattle.rs_update.specs.IpPrefix.{IpPrefix}
 use Rattle.rs_update.specs.PrefixOrder.{same_prefix}
 use Rattle.rs_mrt.specs.Record.{MrtRecord}
 use Rattle.rs_mrt.specs.declared.fault.SourceFault.{SourceFault}
-use Rattle.rs_session.specs.declared.peer.PeerId.{PeerId}
+use Rattle.rs_types.specs.declared.peer_id.PeerId.{PeerId}
 use Rattle.rs_session.specs.Change.{Change, ChangeBody, Announced, Withdrawn, Lost, Closed, change_of}
 use Rattle.rs_session.specs.Stage.{Comes}
-use Rattle.rs_choice.specs.Plan.{Peer, Plan}
+use Rattle.rs_choice.specs.Plan.{Peer, Plan, id_of}
 use Rattle.rs_glass.specs.Behind.{each_behind}
 use Rattle.rs_glass.specs.FileSaid.{SaidChange, cause_in, counts_at, said_in}
 use Rattle.rs_glass.specs.Moments.{in_microseconds}
-use Rattle.rs_glass.specs.Recorded.{AreChangesOf, close_in, id_of, is_failed_read}
+use Rattle.rs_glass.specs.Recorded.{AreChangesOf, close_in, is_failed_read}
 use Rattle.rs_glass.specs.declared.cause.Cause.{Cause}
 use Rattle.rs_glass.specs.declared.happened.Happening.{Happening}
 use Rattle.rs_glass.specs.declared.moment.Moment.{Moment}

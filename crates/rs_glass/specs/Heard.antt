@@ -1,8 +1,7 @@
 -- The recorded sessions of all peers, and what was read of each.
 use Rattle.std.specs.Prelude.{◌≡◌, ℕ, ◌<◌, List, Result, Ok, Err, Some, slice_get}
-use Rattle.rs_choice.specs.Plan.{Peer, Plan}
+use Rattle.rs_choice.specs.Plan.{Peer, Plan, id_of}
 use Rattle.rs_table.specs.Content.{TablesContent, rib_of}
-use Rattle.rs_glass.specs.Recorded.{id_of}
 use Rattle.rs_glass.specs.declared.fault.GlassFault.{GlassFault}
 use Rattle.rs_glass.specs.declared.fault.GlassFault.TheVariants.{Memory, Read}
 use Rattle.rs_glass.specs.declared.hearing.Heard.{Heard}

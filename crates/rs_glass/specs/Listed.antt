@@ -8,7 +8,7 @@ use Rattle.rs_session.specs.Change.{Closed, is_read}
 use Rattle.rs_session.specs.Effect.{RecordEffect, PassesOver, Gives, Ends, effect_of}
 use Rattle.rs_session.specs.FileChanges.{ends}
 use Rattle.rs_session.specs.Stage.{Comes}
-use Rattle.rs_session.specs.declared.peer.PeerId.{PeerId}
+use Rattle.rs_types.specs.declared.peer_id.PeerId.{PeerId}
 use Rattle.rs_change.specs.declared.word.Reason.{Reason}
 use Rattle.rs_glass.specs.FileSaid.{SaidChange, counts_at, moment_of, said_in, said_of}
 use Rattle.rs_glass.specs.Happened.{contents_of, happened_in}

@@ -11,7 +11,7 @@ use Rattle.rs_session.specs.Change.{Change, ChangeBody, Announced, Withdrawn, Lo
 use Rattle.rs_session.specs.Closing.{is_cut_short}
 use Rattle.rs_session.specs.Stage.{Comes}
 use Rattle.rs_session.specs.Told.{MayTell}
-use Rattle.rs_session.specs.declared.peer.PeerId.{PeerId}
+use Rattle.rs_types.specs.declared.peer_id.PeerId.{PeerId}
 use Rattle.rs_change.specs.declared.word.Reason.{Reason}
 use Rattle.rs_choice.specs.Plan.{Peer, Plan}
 use Rattle.rs_table.specs.Content.{TablesContent, rib_of}
@@ -69,10 +69,6 @@ pub record AreTold (prefix : IpPrefix) (changes : List Change) (routes : Routes)
   pub is_said : IsSaid prefix changes said
   pub left_on : (wide : IpPrefix) → covers wide prefix ≡ true → (route : RouteLeft)
       → Leaves changes wide route ↔ (get routes wide ≡ Some route)
-
--- the address and the AS number by which a recording identifies a peer
-abbrev pub id_of : Peer → PeerId
-id_of peer = record { address = peer.address; asn = peer.asn }
 
 module _ {S : Type 0} (comes : Comes S) (shows : S → Option MrtRecord) (question : Question) where
   -- All changes that a peer's session over its source may tell. If a read fails, they are those before it, and the

@@ -1,9 +1,8 @@
 //! The recorded sessions of the peers of an exchange, one for each.
 
 ghost use Rattle.std.specs.Prelude.{◌≡◌, ◌<◌, IfOk, Some, length, slice_get};
-ghost use Rattle.rs_choice.specs.Plan.{Peer};
+ghost use Rattle.rs_choice.specs.Plan.{Peer, id_of};
 ghost use Rattle.rs_glass.specs.Heard.{AreRecordings};
-ghost use Rattle.rs_glass.specs.Recorded.{id_of};
 
 use rs_choice::Exchange;
 use rs_session::PeerId;
@@ -47,19 +46,7 @@ fn recording_of<S>(plan: &Exchange, peer: usize, source: S) -> Recording<S>
 {
     Recording {
         peer,
-        id: peer_id(plan, peer),
+        id: plan.peer(peer).peer_id(),
         source,
-    }
-}
-
-// Who a peer is in a recording.
-fn peer_id(plan: &Exchange, peer: usize) -> PeerId
-    requires { peer < length plan.now.peers }
-    ensures { (spec : Peer) × (slice_get plan.now.peers peer ≡ Some spec) × (result ≡ id_of spec) }
-{
-    let spec = plan.peer(peer);
-    PeerId {
-        address: spec.address,
-        asn: spec.asn,
     }
 }

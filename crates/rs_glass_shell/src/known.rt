@@ -8,7 +8,7 @@ use rs_host::open_file;
 use rs_inventory::{Inventory, PeerRecords, read_outline};
 use rs_losses::{Sought, WithLosses};
 use rs_mrt::{Bounds, Lenient, Losses, RecordReader};
-use rs_notes::{Contents, Outlines, Subject, Telling, contents_of, notes_of, peer_of};
+use rs_notes::{Contents, Outlines, Subject, Telling, contents_of, notes_of};
 use rs_opening::sought;
 use rs_setup::Setup;
 use std::alloc::AllocError;
@@ -197,7 +197,7 @@ fn records_of<'a>(setup: &Setup, peer: usize, held: &'a Inventory) -> Option<&'a
     if peer >= setup.plan.count() {
         return None;
     }
-    held.peers().get(&peer_of(setup.plan.peer(peer)))
+    held.peers().get(&setup.plan.peer(peer).peer_id())
 }
 
 // That a session is down behind these records of its peer, if they show it.

@@ -5,10 +5,10 @@ use Rattle.std.specs.Option.{option_and_then}
 use Rattle.rs_types.specs.AsPath.{numbers_of}
 use Rattle.rs_types.specs.IpPrefix.{IpPrefix}
 use Rattle.rs_types.specs.PathAttributes.{PathAttributes, PathSegment}
-use Rattle.rs_import.specs.declared.as_range.AsRange.{AsRange}
-use Rattle.rs_import.specs.declared.pattern.Pattern.{Pattern}
+use Rattle.rs_types.specs.declared.as_range.AsRange.{AsRange}
+use Rattle.rs_types.specs.declared.pattern.Pattern.{Pattern}
 use Rattle.rs_import.specs.declared.policy.ImportRules.{ImportRules}
-use Rattle.rs_import.specs.declared.vrp.Vrp.{Vrp}
+use Rattle.rs_types.specs.declared.vrp.Vrp.{Vrp}
 use Rattle.rs_import.specs.Alike.{AreBoth, ArePeersAlike, AreRulesAlike, HaveSameMembers, HaveSameNumbers}
 use Rattle.rs_import.specs.AsRanges.{is_in_ranges}
 use Rattle.rs_import.specs.Import.{PeerImport, filter_by_peer, holds_one_of, is_origin_listed, is_prefix_listed, is_rpki_invalid}

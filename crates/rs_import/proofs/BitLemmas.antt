@@ -8,7 +8,7 @@ use Rattle.std.proofs.lemmas.Bool.{and_from, and_parts, and_right, both_ways, ca
 use Rattle.std.proofs.lemmas.List.{get_or-set_other, get_or-set_same, get_or-take, length-take}
 use Rattle.std.proofs.lemmas.Nat.Bits.{bit_at_set_other, bit_at_set_same}
 use Rattle.std.proofs.lemmas.List.Folds.{list_any_at, list_any_more}
-use Rattle.rs_import.specs.declared.as_range.AsRange.{AsRange}
+use Rattle.rs_types.specs.declared.as_range.AsRange.{AsRange}
 use Rattle.rs_import.specs.AsRanges.{is_in_range, is_in_ranges}
 use Rattle.rs_import.specs.Bits.{has_bit}
 use Rattle.rs_import.specs.Reaches.{AreInOrder, IsReach}

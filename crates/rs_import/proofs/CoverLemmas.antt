@@ -13,7 +13,7 @@ use Rattle.rs_types.specs.Prefix.{network_of}
 use Rattle.rs_types.specs.PrefixOrder.{same_prefix}
 use Rattle.rs_import.specs.declared.nesting.Node.{Node}
 use Rattle.rs_import.specs.Nesting.{IsLastCover, IsNested, IsNotBefore, IsPassed, IsUpTo, IsWhole, pattern_of, prefix_of, rank_of}
-use Rattle.rs_import.specs.declared.pattern.Pattern.{Pattern}
+use Rattle.rs_types.specs.declared.pattern.Pattern.{Pattern}
 use Rattle.std.specs.List.Sorted.{IsNonDecreasingBy}
 
 same-is : (one other : IpPrefix) → same_prefix one other ≡ ((one.address == other.address) && (one.len == other.len))

@@ -6,7 +6,7 @@ use Rattle.std.proofs.lemmas.Bool.{and_left}
 use Rattle.std.proofs.lemmas.List.{get_or_read, get_or-take, length-take}
 use Rattle.rs_types.specs.Covering.{covers}
 use Rattle.rs_types.specs.IpPrefix.{IpPrefix}
-use Rattle.rs_import.specs.declared.pattern.Pattern.{Pattern}
+use Rattle.rs_types.specs.declared.pattern.Pattern.{Pattern}
 use Rattle.rs_import.specs.Nesting.{IsNotBefore, rank_of}
 use Rattle.rs_import.specs.Patterns.{is_match}
 

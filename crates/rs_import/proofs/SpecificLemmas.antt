@@ -10,7 +10,7 @@ use Rattle.std.proofs.lemmas.List.{take_all}
 use Rattle.std.proofs.lemmas.Nat.{le-div, mul-le, pow-add, pow_pos}
 use Rattle.rs_types.specs.Covering.{covers}
 use Rattle.rs_types.specs.IpPrefix.{IpPrefix}
-use Rattle.rs_import.specs.declared.pattern.Pattern.{Pattern}
+use Rattle.rs_types.specs.declared.pattern.Pattern.{Pattern}
 use Rattle.rs_import.specs.Nesting.{rank_of}
 use Rattle.rs_import.specs.Patterns.{IsMostSpecific, is_match}
 use Rattle.rs_import.proofs.CoverLemmas.{covers-parts}

@@ -3,9 +3,9 @@ use Rattle.std.proofs.Common.{◌≡◌, sym, subst, refl, true, false, inl, inr
 use Rattle.std.specs.List.{list_any}
 use Rattle.std.proofs.lemmas.Bool.{cases_Bool}
 use Rattle.rs_types.specs.IpPrefix.{IpPrefix}
-use Rattle.rs_import.specs.declared.vrp.Validity.{Validity}
-use Rattle.rs_import.specs.declared.vrp.Validity.TheVariants.{Valid, Invalid, NotFound}
-use Rattle.rs_import.specs.declared.vrp.Vrp.{Vrp}
+use Rattle.rs_import.specs.declared.validity.Validity.{Validity}
+use Rattle.rs_import.specs.declared.validity.Validity.TheVariants.{Valid, Invalid, NotFound}
+use Rattle.rs_types.specs.declared.vrp.Vrp.{Vrp}
 use Rattle.rs_import.specs.Rpki.{HasValidity, is_covering, is_matching, validity_of}
 use Rattle.rs_import.proofs.MemberLemmas.{any-from, from-member, none-at, none-from}
 use Rattle.rs_import.proofs.VrpLemmas.{matching-covers}

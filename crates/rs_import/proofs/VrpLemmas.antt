@@ -8,8 +8,8 @@ use Rattle.std.proofs.lemmas.Bool.{and_left, or_from, or_left, or_right}
 use Rattle.std.proofs.lemmas.List.{get_or-map, get_or-take, get_or_read, length-map, length-take}
 use Rattle.rs_types.specs.Covering.{covers}
 use Rattle.rs_types.specs.IpPrefix.{IpPrefix}
-use Rattle.rs_import.specs.declared.pattern.Pattern.{Pattern}
-use Rattle.rs_import.specs.declared.vrp.Vrp.{Vrp}
+use Rattle.rs_types.specs.declared.pattern.Pattern.{Pattern}
+use Rattle.rs_types.specs.declared.vrp.Vrp.{Vrp}
 use Rattle.rs_import.specs.Nesting.{IsLastCover, IsNotBefore, rank_of}
 use Rattle.rs_import.specs.Rpki.{is_covering, is_matching}
 use Rattle.rs_import.specs.VrpsView.{IsLastCovering, pattern_of_vrp, vrps_of}

@@ -1,7 +1,7 @@
 -- Import policies that say the same, whatever the order of their lists, and whatever stands in them twice.
 use Rattle.std.specs.Prelude.{◌≡◌, ◌↔◌, ℕ, ⊤, List, Option, None, Some, slice_get}
 use Rattle.std.specs.List.{Contains}
-use Rattle.rs_import.specs.declared.as_range.AsRange.{AsRange}
+use Rattle.rs_types.specs.declared.as_range.AsRange.{AsRange}
 use Rattle.rs_import.specs.declared.policy.ImportRules.{ImportRules}
 use Rattle.rs_import.specs.AsRanges.{is_in_ranges}
 use Rattle.rs_import.specs.Import.{ImportPolicy, PeerImport}

@@ -1,7 +1,7 @@
 -- Sets of AS numbers, as ranges (our choice).
 use Rattle.std.specs.Prelude.{ℕ, nat_le, Bool, ◌&&◌, List}
 use Rattle.std.specs.List.{list_any}
-use Rattle.rs_import.specs.declared.as_range.AsRange.{AsRange}
+use Rattle.rs_types.specs.declared.as_range.AsRange.{AsRange}
 
 -- a range has the numbers from its first to its last
 abbrev pub is_in_range : ℕ → AsRange → Bool

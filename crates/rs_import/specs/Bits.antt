@@ -1,7 +1,7 @@
 -- AS numbers by bits: 64 of them in each word (our choice).
 use Rattle.std.specs.Prelude.{◌≡◌, ◌<◌, ◌/◌, ◌%◌, ◌==◌, ℕ, Bool, List, length, slice_index_or}
 use Rattle.std.specs.Int.{bit_at}
-use Rattle.rs_import.specs.declared.as_range.AsRange.{AsRange}
+use Rattle.rs_types.specs.declared.as_range.AsRange.{AsRange}
 use Rattle.rs_import.specs.AsRanges.{is_in_ranges}
 
 -- whether the bit of a number is set; of one behind the last word it is not

@@ -2,7 +2,7 @@
 use Rattle.std.specs.Prelude.{◌≡◌, ◌≤◌, ◌<◌, ◌-◌, true, List, filter, length, reverse, take}
 use Rattle.std.specs.List.{AllWithin}
 use Rattle.rs_import.specs.declared.covering.Covering.TheInside as covering
-use Rattle.rs_import.specs.declared.vrp.Vrp.{Vrp}
+use Rattle.rs_types.specs.declared.vrp.Vrp.{Vrp}
 use Rattle.rs_import.specs.Rpki.{is_covering}
 
 -- those of the first VRPs, so many, that cover the prefix, the last one first

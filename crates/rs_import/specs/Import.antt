@@ -8,14 +8,14 @@ use Rattle.rs_types.specs.AsPath.{first_as_of, numbers_of, path_length_of}
 use Rattle.rs_types.specs.FirstFault.{first_fault}
 use Rattle.rs_types.specs.IpPrefix.{IpPrefix}
 use Rattle.rs_types.specs.PathAttributes.{PathAttributes, PathSegment}
-use Rattle.rs_import.specs.declared.as_range.AsRange.{AsRange}
+use Rattle.rs_types.specs.declared.as_range.AsRange.{AsRange}
 use Rattle.rs_import.specs.declared.filter.Filter.{Filter}
 use Rattle.rs_import.specs.declared.filter.Filter.TheVariants as filters
-use Rattle.rs_import.specs.declared.pattern.Pattern.{Pattern}
+use Rattle.rs_types.specs.declared.pattern.Pattern.{Pattern}
 use Rattle.rs_import.specs.declared.policy.ImportRules.{ImportRules}
-use Rattle.rs_import.specs.declared.vrp.Validity.{Validity}
-use Rattle.rs_import.specs.declared.vrp.Validity.TheVariants.{Valid, Invalid, NotFound}
-use Rattle.rs_import.specs.declared.vrp.Vrp.{Vrp}
+use Rattle.rs_import.specs.declared.validity.Validity.{Validity}
+use Rattle.rs_import.specs.declared.validity.Validity.TheVariants.{Valid, Invalid, NotFound}
+use Rattle.rs_types.specs.declared.vrp.Vrp.{Vrp}
 use Rattle.rs_import.specs.AsRanges.{is_in_ranges}
 use Rattle.rs_import.specs.Patterns.{matches_some}
 use Rattle.rs_import.specs.Rpki.{origin_of, validity_of}

@@ -2,10 +2,10 @@
 use Rattle.std.specs.Prelude.{◌≡◌, ◌≤◌, ◌↔◌, ℕ, true, IsFalse, List, Option, None, Some, slice_get}
 use Rattle.rs_types.specs.IpPrefix.{IpPrefix}
 use Rattle.rs_types.specs.PathAttributes.{PathAttributes}
-use Rattle.rs_import.specs.declared.as_range.AsRange.{AsRange}
-use Rattle.rs_import.specs.declared.pattern.Pattern.{Pattern}
-use Rattle.rs_import.specs.declared.vrp.Validity.{Validity}
-use Rattle.rs_import.specs.declared.vrp.Vrp.{Vrp}
+use Rattle.rs_types.specs.declared.as_range.AsRange.{AsRange}
+use Rattle.rs_types.specs.declared.pattern.Pattern.{Pattern}
+use Rattle.rs_import.specs.declared.validity.Validity.{Validity}
+use Rattle.rs_types.specs.declared.vrp.Vrp.{Vrp}
 use Rattle.rs_import.specs.Alike.{AreAlike, HaveSameMembers, HaveSameNumbers}
 use Rattle.rs_import.specs.Import.{ImportPolicy, PeerImport, filter_by_peer, filter_of, no_import, no_rules}
 use Rattle.rs_import.specs.Patterns.{matches_some}

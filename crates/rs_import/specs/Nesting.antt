@@ -4,7 +4,7 @@ use Rattle.std.specs.List.{AllWithin}
 use Rattle.rs_types.specs.IpPrefix.{IpPrefix}
 use Rattle.rs_types.specs.Covering.{covers}
 use Rattle.rs_import.specs.declared.nesting.Node.{Node}
-use Rattle.rs_import.specs.declared.pattern.Pattern.{Pattern}
+use Rattle.rs_types.specs.declared.pattern.Pattern.{Pattern}
 
 -- the prefix of a node; below, its pattern
 abbrev pub prefix_of : Node → IpPrefix

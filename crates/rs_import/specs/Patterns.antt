@@ -3,7 +3,7 @@ use Rattle.std.specs.Prelude.{nat_le, ◌≤◌, Bool, ◌&&◌, IsTrue, List}
 use Rattle.std.specs.List.{All, list_any}
 use Rattle.rs_types.specs.IpPrefix.{IpPrefix}
 use Rattle.rs_types.specs.Covering.{covers}
-use Rattle.rs_import.specs.declared.pattern.Pattern.{Pattern}
+use Rattle.rs_types.specs.declared.pattern.Pattern.{Pattern}
 
 -- a pattern matches the prefixes that its prefix covers, if their length is from its least to its most
 abbrev pub is_match : IpPrefix → Pattern → Bool

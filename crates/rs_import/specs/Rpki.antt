@@ -5,9 +5,9 @@ use Rattle.std.specs.List.{list_any, Contains}
 use Rattle.rs_types.specs.IpPrefix.{IpPrefix}
 use Rattle.rs_types.specs.Covering.{covers}
 use Rattle.rs_types.specs.PathAttributes.{PathSegment, AsSet, AsSequence}
-use Rattle.rs_import.specs.declared.vrp.Vrp.{Vrp}
-use Rattle.rs_import.specs.declared.vrp.Validity.{Validity}
-use Rattle.rs_import.specs.declared.vrp.Validity.TheVariants.{Valid, Invalid, NotFound}
+use Rattle.rs_types.specs.declared.vrp.Vrp.{Vrp}
+use Rattle.rs_import.specs.declared.validity.Validity.{Validity}
+use Rattle.rs_import.specs.declared.validity.Validity.TheVariants.{Valid, Invalid, NotFound}
 
 -- the last member of a list; the other value if the list is empty
 abbrev pub last_or : {M : Type 0} → M → List M → M

@@ -2,8 +2,8 @@
 use Rattle.std.specs.Prelude.{◌≡◌, ◌≤◌, ◌<◌, ◌-◌, ℕ, true, false, List, [], ◌∷◌}
 use Rattle.std.specs.List.{AllWithin}
 use Rattle.rs_types.specs.IpPrefix.{IpPrefix}
-use Rattle.rs_import.specs.declared.pattern.Pattern.{Pattern}
-use Rattle.rs_import.specs.declared.vrp.Vrp.{Vrp}
+use Rattle.rs_types.specs.declared.pattern.Pattern.{Pattern}
+use Rattle.rs_types.specs.declared.vrp.Vrp.{Vrp}
 use Rattle.rs_import.specs.Rpki.{is_covering}
 
 -- the pattern of the prefixes that the AS of a VRP may originate

@@ -5,9 +5,9 @@ ghost use Rattle.rs_import.specs.AsRanges.{is_in_ranges};
 ghost use Rattle.rs_import.specs.Bits.{AreBits};
 ghost use Rattle.rs_import.specs.Reaches.{AreInOrder, AreReaches};
 
-use crate::as_range::AsRange;
 use crate::bits::{Bits, WORD_BITS};
 use crate::blocks::{Blocks, Numbered};
+use rs_types::AsRange;
 use std::alloc::{AllocError, Global};
 use std::marker::Model;
 
@@ -31,7 +31,7 @@ const LAST_WITH_BIT: u32 = 524_287;
 
 impl Model for AsSet {
     ghost use Rattle.std.specs.Prelude.{List};
-    ghost use Rattle.rs_import.specs.declared.as_range.AsRange.{AsRange};
+    ghost use Rattle.rs_types.specs.declared.as_range.AsRange.{AsRange};
     ghost use Rattle.rs_import.specs.Bits.{AreBits};
     ghost use Rattle.rs_import.specs.Blocks.{AreStarts};
     ghost use Rattle.rs_import.specs.Reaches.{AreInOrder, AreReaches};

@@ -3,9 +3,8 @@
 ghost use Rattle.std.specs.Prelude.{◌≡◌, filter, reverse};
 ghost use Rattle.rs_import.specs.Rpki.{is_covering};
 
-use crate::vrp::Vrp;
 use crate::vrps::Vrps;
-use rs_types::Prefix;
+use rs_types::{Prefix, Vrp};
 use std::marker::Model;
 
 /// The VRPs that cover a prefix: an iterator over them, the most specific ones first, that takes no memory.
@@ -18,7 +17,7 @@ pub struct Covering<'a> {
 
 impl<'a> Model for Covering<'a> {
     ghost use Rattle.std.specs.Prelude.{List};
-    ghost use Rattle.rs_import.specs.declared.vrp.Vrp.{Vrp};
+    ghost use Rattle.rs_types.specs.declared.vrp.Vrp.{Vrp};
     ghost use Rattle.rs_import.specs.CoveringView.{IsAtCover, covering_view};
 
     ghost Value = { List Vrp };

@@ -3,8 +3,8 @@
 //! Standards: RFC 4271, section 9.1.1 (policy may find a route ineligible); RFC 6811 (validity by RPKI).
 //!
 //! Reading order:
-//! - What the lists have: `as_range` and `as_set` (AS numbers, small ones by `bits`), `pattern` and `prefix_set` (prefixes), `vrp`, `vrps`
-//!   and `covering` (VRPs, and the validity of a route by them). Both sets of prefixes are searched by `nesting`, and
+//! - What the lists have, whose entries are types of `rs_types`: `as_set` (AS numbers, small ones by `bits`),
+//!   `prefix_set` (prefixes), `validity`, `vrps` and `covering` (VRPs, and the validity of a route by them). Both sets of prefixes are searched by `nesting`, and
 //!   large ones by `blocks`.
 //! - What is asked of a route: `path` (of its AS_PATH), `filter` (the reason why it is not taken in), and `policy`.
 //! - What holds of the definitions that the contracts cite: `laws`.
@@ -12,7 +12,6 @@
 //! A call that allocates fails if memory is refused.
 #![tactic(auto)]
 
-mod as_range;
 mod as_set;
 mod bits;
 mod blocks;
@@ -21,13 +20,11 @@ mod filter;
 mod laws;
 mod nesting;
 mod path;
-mod pattern;
 mod policy;
 mod prefix_set;
-mod vrp;
+mod validity;
 mod vrps;
 
-pub use as_range::AsRange;
 pub use as_set::AsSet;
 pub use covering::Covering;
 pub use filter::Filter;
@@ -36,8 +33,8 @@ pub use laws::{
     order_and_repetition_are_no_matter,
 };
 pub use path::{first_as, origin_as, refused_as};
-pub use pattern::Pattern;
 pub use policy::{ImportPolicy, ImportRules, PeerImport};
 pub use prefix_set::PrefixSet;
-pub use vrp::{Validity, Vrp};
+pub use rs_types::{AsRange, Pattern, Vrp};
+pub use validity::Validity;
 pub use vrps::Vrps;

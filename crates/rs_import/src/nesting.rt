@@ -11,8 +11,7 @@ ghost use Rattle.rs_import.specs.Nesting.{IsLastCover, IsNested, IsNotBefore, Is
 ghost use Rattle.rs_import.specs.Nesting.{prefix_of, rank_of};
 
 use crate::blocks::{Blocks, Numbered};
-use crate::pattern::Pattern;
-use rs_types::{Prefix, a_prefix_covers_itself, covers};
+use rs_types::{Pattern, Prefix, a_prefix_covers_itself, covers};
 use std::alloc::{AllocError, Global};
 use std::marker::Model;
 
@@ -45,7 +44,7 @@ pub(crate) struct Nesting {
 
 impl Model for Nesting {
     ghost use Rattle.std.specs.Prelude.{List, map};
-    ghost use Rattle.rs_import.specs.declared.pattern.Pattern.{Pattern};
+    ghost use Rattle.rs_types.specs.declared.pattern.Pattern.{Pattern};
     ghost use Rattle.rs_import.specs.Blocks.{AreStarts};
     ghost use Rattle.rs_import.specs.Nesting.{IsNested, pattern_of};
 

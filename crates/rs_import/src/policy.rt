@@ -14,7 +14,7 @@ use crate::as_set::AsSet;
 use crate::filter::Filter;
 use crate::path::{first_as, holds_one_of, origin_as};
 use crate::prefix_set::PrefixSet;
-use crate::vrp::Validity;
+use crate::validity::Validity;
 use crate::vrps::Vrps;
 use rs_types::{Attributes, Prefix};
 use std::alloc::Global;

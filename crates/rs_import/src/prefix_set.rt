@@ -6,8 +6,7 @@ ghost use Rattle.rs_import.specs.Nesting.{rank_of};
 ghost use Rattle.rs_import.specs.Patterns.{IsMostSpecific, is_match, matches_some};
 
 use crate::nesting::{Nesting, rank_of};
-use crate::pattern::Pattern;
-use rs_types::{Prefix, covers};
+use rs_types::{Pattern, Prefix, covers};
 use std::alloc::{AllocError, Global};
 use std::marker::Model;
 
@@ -20,7 +19,7 @@ pub struct PrefixSet {
 impl Model for PrefixSet {
     ghost use Rattle.std.specs.Prelude.{List};
     ghost use Rattle.std.specs.List.Sorted.{IsNonDecreasingBy};
-    ghost use Rattle.rs_import.specs.declared.pattern.Pattern.{Pattern};
+    ghost use Rattle.rs_types.specs.declared.pattern.Pattern.{Pattern};
     ghost use Rattle.rs_import.specs.Nesting.{rank_of};
 
     ghost Value = { List Pattern };

@@ -8,9 +8,8 @@ ghost use Rattle.rs_import.specs.Rpki.{has_origin, is_covering, is_matching, val
 ghost use Rattle.rs_import.specs.VrpsView.{IsLastCovering, pattern_of_vrp};
 
 use crate::nesting::{Nesting, rank_of};
-use crate::pattern::Pattern;
-use crate::vrp::{Validity, Vrp};
-use rs_types::{Prefix, covers};
+use crate::validity::Validity;
+use rs_types::{Pattern, Prefix, Vrp, covers};
 use std::alloc::{AllocError, Global};
 use std::marker::Model;
 
@@ -23,7 +22,7 @@ pub struct Vrps {
 
 impl Model for Vrps {
     ghost use Rattle.std.specs.Prelude.{◌≡◌, List, length};
-    ghost use Rattle.rs_import.specs.declared.vrp.Vrp.{Vrp};
+    ghost use Rattle.rs_types.specs.declared.vrp.Vrp.{Vrp};
     ghost use Rattle.rs_import.specs.VrpsView.{vrps_of};
 
     ghost Value = { List Vrp };

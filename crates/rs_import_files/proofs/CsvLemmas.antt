@@ -16,7 +16,7 @@ use Rattle.csv.specs.declared.reader.Trim.TheVariants as trim
 use Rattle.csv.proofs.ReadFacts.{rows-end, rows-more}
 use Rattle.rs_import_files.specs.Csv.{AreRecordsOf, AreTitles, AreVrpsBelow, IsCsvOfVrps, IsVrpRecord, is_counted}
 use Rattle.rs_import_files.specs.Rows.{Goes, HasRead, is_utf8_fault}
-use Rattle.rs_import.specs.declared.vrp.Vrp.{Vrp}
+use Rattle.rs_types.specs.declared.vrp.Vrp.{Vrp}
 use Rattle.rs_import_files.proofs.LineLemmas.{none_between}
 
 pub goes : (text : List ℕ) (records : List (List (List ℕ))) (old new : Reader (Bor (List ℕ))) (fields : List (List ℕ)) (found : Bool)

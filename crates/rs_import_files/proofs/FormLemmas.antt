@@ -3,8 +3,8 @@ use Rattle.std.proofs.Common.{◌≡◌, ◌≢◌, ◌∙◌, ◌≤◌, ℕ, L
 use Rattle.std.proofs.Common.{append_assoc}
 use Rattle.std.proofs.lemmas.List.{append-nil}
 use Rattle.rs_types.specs.IpPrefix.{IpPrefix, IsPrefix}
-use Rattle.rs_import.specs.declared.as_range.AsRange.{AsRange}
-use Rattle.rs_import.specs.declared.pattern.Pattern.{Pattern}
+use Rattle.rs_types.specs.declared.as_range.AsRange.{AsRange}
+use Rattle.rs_types.specs.declared.pattern.Pattern.{Pattern}
 use Rattle.rs_import_files.specs.Texts.{AreBounds, AreWritten, IsAsEntry, IsAsNumber, IsAsRange, IsDottedAddress, IsLength, IsNumber}
 use Rattle.rs_import_files.specs.Texts.{IsPattern, IsPrefixText, IsSpan, Lacks, StandsForNone}
 use Rattle.rs_import_files.proofs.NoneLemmas.{NoDigit, address_lacks, address_once, length_lacks, length_once, no_end, no_parts, number_lacks}

@@ -5,7 +5,7 @@ use Rattle.csv.specs.Records.{field_at}
 use Rattle.json.specs.Find.{get}
 use Rattle.json.specs.Json.{Json, number}
 use Rattle.rs_types.specs.IpPrefix.{IpPrefix}
-use Rattle.rs_import.specs.declared.pattern.Pattern.{Pattern}
+use Rattle.rs_types.specs.declared.pattern.Pattern.{Pattern}
 use Rattle.rs_import_files.specs.Csv.{IsVrpRecord}
 use Rattle.rs_import_files.specs.JsonRows.{IsAsValue, IsBound, IsExactLawful, IsLengthValue, IsPatternRow, IsVrpRow, has_bound, text_at}
 use Rattle.rs_import_files.specs.Texts.{AreBounds, IsAsNumber, IsLength, IsPrefixText, StandsForNone}

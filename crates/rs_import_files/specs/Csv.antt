@@ -5,7 +5,7 @@ use Rattle.std.specs.Option.{option_map, unwrap_or}
 use Rattle.csv.specs.Reading.{AreRecords, default_config}
 use Rattle.csv.specs.Records.{AllText, field_at}
 use Rattle.csv.specs.declared.parser.State.TheVariants as st
-use Rattle.rs_import.specs.declared.vrp.Vrp.{Vrp}
+use Rattle.rs_types.specs.declared.vrp.Vrp.{Vrp}
 use Rattle.rs_import_files.specs.Texts.{IsAsNumber, IsLength, IsPrefixText, has_colon}
 
 -- the records of a text, each field of which is UTF-8

@@ -7,9 +7,9 @@ use Rattle.std.specs.Option.{is_some, option_map, unwrap_or}
 use Rattle.json.specs.Json.{Json, null, boolean, number, string, array, object, Members, no_members, member, document}
 use Rattle.json.specs.Find.{as_str, get}
 use Rattle.json.specs.Value.{items_of}
-use Rattle.rs_import.specs.declared.as_range.AsRange.{AsRange}
-use Rattle.rs_import.specs.declared.pattern.Pattern.{Pattern}
-use Rattle.rs_import.specs.declared.vrp.Vrp.{Vrp}
+use Rattle.rs_types.specs.declared.as_range.AsRange.{AsRange}
+use Rattle.rs_types.specs.declared.pattern.Pattern.{Pattern}
+use Rattle.rs_types.specs.declared.vrp.Vrp.{Vrp}
 use Rattle.rs_import_files.specs.Texts.{AreBounds, IsAsNumber, IsLength, IsNumber, IsPrefixText, has_colon}
 
 -- a value is an AS number: a number, or a text with or without "AS" before it

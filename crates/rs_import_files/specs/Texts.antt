@@ -5,8 +5,8 @@ use Rattle.std.specs.Char.{is_ascii_hexdigit}
 use Rattle.std.specs.List.{All, list_all, list_any}
 use Rattle.std.specs.Net.Grammar.{IsDotted}
 use Rattle.rs_types.specs.IpPrefix.{IpPrefix, IsPrefix}
-use Rattle.rs_import.specs.declared.as_range.AsRange.{AsRange}
-use Rattle.rs_import.specs.declared.pattern.Pattern.{Pattern}
+use Rattle.rs_types.specs.declared.as_range.AsRange.{AsRange}
+use Rattle.rs_types.specs.declared.pattern.Pattern.{Pattern}
 
 -- a text or a value has no meaning of this sort
 abbrev pub StandsForNone : {V A : Type 0} → (V → A → Type 0) → V → Type 0

@@ -14,7 +14,7 @@ use crate::fault::{Flaw, ListFault};
 use crate::octets::{not_utf8, record_line};
 use crate::reasons::{need_length, need_number, need_prefix, need_vrp};
 use csv::{ErrorKind, Position, Reader, ReaderBuilder, StringRecord};
-use rs_import::Vrp;
+use rs_types::Vrp;
 use std::alloc::Global;
 
 // The VRPs that octets of CSV give.

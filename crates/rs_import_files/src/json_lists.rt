@@ -5,7 +5,7 @@ ghost use Rattle.std.specs.Prelude.{false, if◌then◌else◌, map, true};
 ghost use Rattle.json.specs.Find.{get};
 ghost use Rattle.json.specs.Json.{document};
 ghost use Rattle.json.specs.Value.{members_view, value_view};
-ghost use Rattle.rs_import.specs.declared.vrp.Vrp.{Vrp};
+ghost use Rattle.rs_types.specs.declared.vrp.Vrp.{Vrp};
 ghost use Rattle.rs_import_files.specs.declared.fault.Flaw.{Flaw};
 ghost use Rattle.rs_import_files.specs.Faults.{Refuses, is_of_file};
 ghost use Rattle.rs_import_files.specs.JsonRows.{AreListsOf, ArePatternRows, AreRangeRows, AreVrpRows};
@@ -23,8 +23,7 @@ use crate::octets::line_at;
 use crate::patterns::within;
 use crate::reasons::{need_prefix, need_vrp};
 use json::{Error, MAX_DEPTH, Reader, Scratch, Value};
-use rs_import::{AsRange, Pattern, Vrp};
-use rs_types::Prefix;
+use rs_types::{AsRange, Pattern, Prefix, Vrp};
 use std::alloc::Global;
 
 // The VRP of a row, or none if its prefix is of IPv6.

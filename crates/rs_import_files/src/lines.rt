@@ -12,7 +12,7 @@ ghost use Rattle.rs_import_files.specs.Texts.{IsAsEntry, IsPattern, StandsForNon
 use crate::cuts::is_ipv6;
 use crate::fault::{Flaw, ListFault};
 use crate::reasons::{need_pattern, need_range};
-use rs_import::{AsRange, Pattern};
+use rs_types::{AsRange, Pattern};
 use std::alloc::{AllocError, Global};
 
 // The patterns that the lines of a text are.

@@ -13,7 +13,7 @@ use crate::fault::ListFault;
 use crate::json_lists::{json_patterns, json_ranges, json_vrps};
 use crate::lines::{patterns, ranges};
 use crate::octets::{is_json, text_of};
-use rs_import::{AsRange, Pattern, Vrp};
+use rs_types::{AsRange, Pattern, Vrp};
 use std::alloc::Global;
 
 // The most entries that a table has room for.

@@ -6,8 +6,7 @@ ghost use Rattle.rs_import_files.specs.Texts.{AreBounds, AreWritten, IsPattern, 
 use crate::cuts::{cut_at, without_last};
 use crate::numbers::length;
 use crate::prefixes::read_prefix;
-use rs_import::Pattern;
-use rs_types::Prefix;
+use rs_types::{Pattern, Prefix};
 
 /// The pattern that a text is. It is a prefix alone, or a prefix and `+`: all more specific ones match, too. Or it is
 /// a prefix and `{n,m}`: the prefixes of n to m bits inside it match.

@@ -5,7 +5,7 @@ ghost use Rattle.rs_import_files.specs.Texts.{IsAsEntry, IsAsRange, IsSpan, Stan
 
 use crate::cuts::cut_at;
 use crate::numbers::{as_number, number};
-use rs_import::AsRange;
+use rs_types::AsRange;
 
 /// The range that a text is: one AS number, or two in ascending order with a dash between them.
 pub fn read_as_range(text: &str) -> Option<AsRange>

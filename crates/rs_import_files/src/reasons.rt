@@ -8,8 +8,7 @@ use crate::numbers::{as_number, length};
 use crate::patterns::read_pattern;
 use crate::prefixes::{has_host_bits, read_prefix};
 use crate::ranges::read_as_entry;
-use rs_import::{AsRange, Pattern, Vrp};
-use rs_types::Prefix;
+use rs_types::{AsRange, Pattern, Prefix, Vrp};
 use std::alloc::{AllocError, Global};
 
 // The longest text that a reason repeats.

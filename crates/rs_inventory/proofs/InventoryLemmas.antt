@@ -21,7 +21,7 @@ use Rattle.rs_inventory.specs.declared.finding.Finding.{Finding}
 use Rattle.rs_inventory.specs.declared.finding.News.{News}
 use Rattle.rs_inventory.specs.declared.finding.Note.{Note}
 use Rattle.rs_inventory.specs.declared.kind.Kind.{Kind}
-use Rattle.rs_inventory.specs.declared.peer.Peer.{Peer}
+use Rattle.rs_types.specs.declared.peer_id.PeerId.{PeerId}
 use Rattle.rs_inventory.proofs.BackLemmas.{back-push}
 use Rattle.rs_inventory.proofs.PeerLemmas.{counted-more}
 
@@ -105,7 +105,7 @@ first_found-push ask (y ∷ xs) x =
 
 -- ---- peers
 
-same_peer-true : (x y : Peer) → same_peer x y ≡ true → x ≡ y
+same_peer-true : (x y : PeerId) → same_peer x y ≡ true → x ≡ y
 same_peer-true x y e =
     let equal = (Equal-is (peer_cmp x y)).0 e in
     let address : x.address ≡ y.address = grind (arith, common_steps) in
@@ -113,9 +113,9 @@ same_peer-true x y e =
     λ i. record { address = address i; asn = asn i }
 
 -- what is known of one peer becomes what it is with one record more
-pub takes-one : (old new : List (Peer × PeerContent)) (note : Note) (time : ℕ) (was : Option PeerContent) (now : PeerContent)
+pub takes-one : (old new : List (PeerId × PeerContent)) (note : Note) (time : ℕ) (was : Option PeerContent) (now : PeerContent)
     → peer_at old note.peer ≡ was
-    → ((peer : Peer) → peer_at new peer ≡ cond (same_peer note.peer peer) (Some now) (peer_at old peer))
+    → ((peer : PeerId) → peer_at new peer ≡ cond (same_peer note.peer peer) (Some now) (peer_at old peer))
     → ((told : List Told) → was ≡ known_of told → Some now ≡ known_of (told ++ (time, note.news) ∷ [])) → TakesNote old time (Some note) new
 takes-one old new note time was now before updates next = λ peer told is.
     elim (cases_Bool (same_peer note.peer peer)) [
@@ -136,7 +136,7 @@ next-new time one now tells (t ∷ told) none = absurd (cc none)
 
 -- ---- all
 
-pub holds-more : (findings : List Finding) (one : Finding) (old mid new : Content) (peers : List (Peer × PeerContent)) → Holds findings old
+pub holds-more : (findings : List Finding) (one : Finding) (old mid new : Content) (peers : List (PeerId × PeerContent)) → Holds findings old
     → mid ≡ with_back one (record old { peers = peers }) → TakesNote old.peers one.time one.note peers → WithCounts one mid new
     → Holds (findings ++ one ∷ []) new
 holds-more findings one old mid new peers holds same takes counts = record {

@@ -15,11 +15,11 @@ use Rattle.rs_inventory.specs.OutlinedRecords.{IsFileOutline}
 use Rattle.rs_inventory.specs.Reading.{GivesRecord, Going}
 use Rattle.rs_inventory.specs.declared.depth.Depth.TheVariants as depths
 use Rattle.rs_inventory.specs.declared.file_outline.Outline.{Outline}
-use Rattle.rs_inventory.specs.declared.peer.Peer.{Peer}
+use Rattle.rs_types.specs.declared.peer_id.PeerId.{PeerId}
 use Rattle.rs_inventory.proofs.ReadingLemmas.{behind-shown, going-more}
 
 -- records came so far, others may still come behind them, and this is the outline of those that came
-pub record OutlineGoing {S : Type 0} (server : Peer) (comes : S → List MrtRecord → Option SourceFault → Type 0) (initial now : S)
+pub record OutlineGoing {S : Type 0} (server : PeerId) (comes : S → List MrtRecord → Option SourceFault → Type 0) (initial now : S)
     (outline : Outline) : Type 0 where
   pub going : Going depths.Outline comes initial now outline.held
   pub uncompressed : outline.held.compression ≡ None
@@ -33,7 +33,7 @@ any-push test xs x = list_any-append test xs (x ∷ []) ∙ ap (λ (b : Bool). l
     or-false false = refl
 
 -- no record came yet
-pub outline-start : {S : Type 0} (server : Peer) (comes : S → List MrtRecord → Option SourceFault → Type 0) (initial : S) (outline : Outline)
+pub outline-start : {S : Type 0} (server : PeerId) (comes : S → List MrtRecord → Option SourceFault → Type 0) (initial : S) (outline : Outline)
     → OutlinesNothing outline → OutlineGoing server comes initial initial outline
 outline-start server comes initial outline nothing = record {
   going = record { done = []; behind = λ later fault come. come; holds = nothing.held.0 };
@@ -42,7 +42,7 @@ outline-start server comes initial outline nothing = record {
 }
 
 -- one record more came
-pub outline-more : {S : Type 0} (server : Peer) (comes : S → List MrtRecord → Option SourceFault → Type 0) (initial old new : S)
+pub outline-more : {S : Type 0} (server : PeerId) (comes : S → List MrtRecord → Option SourceFault → Type 0) (initial old new : S)
     (before after : Outline) (r : MrtRecord) (shown : Option MrtRecord) (end : Option MrtFault)
     → OutlineGoing server comes initial old before → GivesRecord comes old new shown end true → Some r ≡ shown
     → TakesRecord server before r after → OutlineGoing server comes initial new after
@@ -55,7 +55,7 @@ outline-more server comes initial old new before after r shown end so gives is t
 }
 
 -- the records end
-pub outline-whole : {R : Type 0} (server : Peer) (comes : RecordReading R → List MrtRecord → Option SourceFault → Type 0)
+pub outline-whole : {R : Type 0} (server : PeerId) (comes : RecordReading R → List MrtRecord → Option SourceFault → Type 0)
     (initial now last : RecordReading R) (outline : Outline) (shown : Option MrtRecord) (end : Option MrtFault) (cut : Option Cut)
     → OutlineGoing server comes initial now outline → GivesRecord comes now last shown end false
     → last.stopped ≡ Some (answer_at_end (source_end end)) → cut ≡ cut_of last

@@ -8,15 +8,15 @@ use Rattle.rs_inventory.specs.Finding.{finding_of, is_peer}
 use Rattle.rs_inventory.specs.Inventory.{HoldsNothing, TakesFinding}
 use Rattle.rs_inventory.specs.declared.depth.Depth.TheVariants as depths
 use Rattle.rs_inventory.specs.declared.file_outline.Outline.{Outline}
-use Rattle.rs_inventory.specs.declared.peer.Peer.{Peer}
+use Rattle.rs_types.specs.declared.peer_id.PeerId.{PeerId}
 
 -- whether the recorder of a message, if it has one, is the server
-abbrev pub is_recorder : Option Peer → Peer → Bool
+abbrev pub is_recorder : Option PeerId → PeerId → Bool
 is_recorder None server = false
 is_recorder (Some recorder) server = is_peer recorder server
 
 -- whether a record is a message that names the server as its recorder
-abbrev pub is_recorded_by : Peer → MrtRecord → Bool
+abbrev pub is_recorded_by : PeerId → MrtRecord → Bool
 is_recorded_by server r = is_recorder (finding_of depths.Outline r).recorder server
 
 -- the outline of no record
@@ -27,7 +27,7 @@ pub record OutlinesNothing (outline : Outline) : Type 0 where
   pub cut : outline.cut ≡ None
 
 -- one more record turns the old outline into the new one
-pub record TakesRecord (server : Peer) (old : Outline) (r : MrtRecord) (new : Outline) : Type 0 where
+pub record TakesRecord (server : PeerId) (old : Outline) (r : MrtRecord) (new : Outline) : Type 0 where
   pub held : TakesFinding old.held (finding_of depths.Outline r) new.held
   pub uncompressed : new.held.compression ≡ old.held.compression
   pub names_server : new.names_server ≡ old.names_server || is_recorded_by server r

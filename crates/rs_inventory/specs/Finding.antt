@@ -19,7 +19,7 @@ use Rattle.rs_inventory.specs.declared.finding.News.TheVariants as news
 use Rattle.rs_inventory.specs.declared.finding.Note.{Note}
 use Rattle.rs_inventory.specs.declared.kind.Kind.{Kind}
 use Rattle.rs_inventory.specs.declared.kind.Kind.TheVariants as kinds
-use Rattle.rs_inventory.specs.declared.peer.Peer.{Peer}
+use Rattle.rs_types.specs.declared.peer_id.PeerId.{PeerId}
 
 -- ---- a message
 
@@ -98,14 +98,14 @@ abbrev pub known_octets : List ℕ → Option ℕ
 known_octets body = if nat_lt (length body) front_len then Some (header_len + length body) else None
 
 -- the recorder of a message with four-octet AS numbers: Local AS at 4, Local IP Address at 16 (RFC 6396, section 4.4.3)
-abbrev pub recorder_in : Option (List ℕ) → Option Peer
+abbrev pub recorder_in : Option (List ℕ) → Option PeerId
 recorder_in None = None
 recorder_in (Some fields) =
     if nat_lt (length fields) message_place then None
     else Some (record { address = big_number 4 (drop 16 fields); asn = big_number 4 (drop 4 fields) })
 
 -- whether two peers are the same
-abbrev pub is_peer : Peer → Peer → Bool
+abbrev pub is_peer : PeerId → PeerId → Bool
 is_peer one other = (one.address == other.address) && (one.asn == other.asn)
 
 -- the fields of BGP4MP_MESSAGE (RFC 6396, section 4.4.2): Peer AS of two octets at 0, Address Family at 6, Peer IP

@@ -18,10 +18,10 @@ use Rattle.rs_inventory.specs.declared.compression.Compression.{Compression}
 use Rattle.rs_inventory.specs.declared.finding.Finding.{Finding}
 use Rattle.rs_inventory.specs.declared.finding.Note.{Note}
 use Rattle.rs_inventory.specs.declared.kind.Kind.{Kind}
-use Rattle.rs_inventory.specs.declared.peer.Peer.{Peer}
+use Rattle.rs_types.specs.declared.peer_id.PeerId.{PeerId}
 
 -- the order of peers: by address, then by AS number
-abbrev pub peer_cmp : Peer → Peer → Ordering
+abbrev pub peer_cmp : PeerId → PeerId → Ordering
 peer_cmp one other = ordering_then (nat_cmp one.address other.address) (nat_cmp one.asn other.asn)
 
 -- the content of a file: `kinds` has a count at the place of each kind, and `peers` are in ascending order
@@ -34,22 +34,22 @@ pub record Content : Type 0 where
   pub last : Option ℕ
   pub octets : Option ℕ
   pub back : Option Back
-  pub recorder : Option Peer
-  pub peers : List (Peer × PeerContent)
+  pub recorder : Option PeerId
+  pub peers : List (PeerId × PeerContent)
 
 -- ---- peers
 
 -- whether two peers are the same
-abbrev pub same_peer : Peer → Peer → Bool
+abbrev pub same_peer : PeerId → PeerId → Bool
 same_peer = eq_by_cmp peer_cmp
 
 -- the meaning of a record for a peer, if it has one
-abbrev pub told_in : Peer → ℕ → Option Note → Option Told
+abbrev pub told_in : PeerId → ℕ → Option Note → Option Told
 told_in peer time None = None
 told_in peer time (Some note) = if same_peer note.peer peer then Some (time, note.news) else None
 
 -- the meaning of all records for a peer
-abbrev pub told_of : Peer → List Finding → List Told
+abbrev pub told_of : PeerId → List Finding → List Told
 told_of peer findings = filter_map (λ f. told_in peer f.time f.note) findings
 
 -- a peer is known if some record has a meaning for it
@@ -58,7 +58,7 @@ known_of [] = None
 known_of (one ∷ later) = Some (peer_content (one ∷ later))
 
 -- the content for a peer
-abbrev pub peer_at : List (Peer × PeerContent) → Peer → Option PeerContent
+abbrev pub peer_at : List (PeerId × PeerContent) → PeerId → Option PeerContent
 peer_at peers peer = lookup (is_at (peer_cmp peer)) peers
 
 -- ---- all records
@@ -75,7 +75,7 @@ pub record Holds (findings : List Finding) (content : Content) : Type 0 where
   pub octets : content.octets ≡ option_map counted (known_sum (map (λ f. f.octets) findings))
   pub back : TellsBack findings content.back
   pub recorder : content.recorder ≡ first_found (λ f. f.recorder) findings
-  pub peers : (peer : Peer) → peer_at content.peers peer ≡ known_of (told_of peer findings)
+  pub peers : (peer : PeerId) → peer_at content.peers peer ≡ known_of (told_of peer findings)
 
 -- the content of no records: no kind, time, octet, recorder or peer, and no end within a record
 abbrev pub HoldsNothing : Content → Type 0
@@ -88,8 +88,8 @@ TakesFinding old one new = (findings : List Finding) → Holds findings old → 
 -- ---- one more record
 
 -- one more record turns the old content for each peer into the new one
-abbrev pub TakesNote : List (Peer × PeerContent) → ℕ → Option Note → List (Peer × PeerContent) → Type 0
-TakesNote old time note new = (peer : Peer) → (told : List Told) → peer_at old peer ≡ known_of told
+abbrev pub TakesNote : List (PeerId × PeerContent) → ℕ → Option Note → List (PeerId × PeerContent) → Type 0
+TakesNote old time note new = (peer : PeerId) → (told : List Told) → peer_at old peer ≡ known_of told
     → peer_at new peer ≡ known_of (told ++ cons_option (told_in peer time note) [])
 
 -- the earliest time, after one more record

@@ -16,17 +16,17 @@ use Rattle.rs_inventory.specs.Finding.{finding_of}
 use Rattle.rs_inventory.specs.Inventory.{Holds}
 use Rattle.rs_inventory.specs.declared.depth.Depth.TheVariants as depths
 use Rattle.rs_inventory.specs.declared.file_outline.Outline.{Outline}
-use Rattle.rs_inventory.specs.declared.peer.Peer.{Peer}
+use Rattle.rs_types.specs.declared.peer_id.PeerId.{PeerId}
 
 -- a reader of records, the server as records name it, and what is gathered of the records that were shown
 pub record Outlining (R : Type 0) : Type 0 where
   pub source : RecordReading R
-  pub server : Peer
+  pub server : PeerId
   pub gathered : Option Outline
 
 -- What is gathered after a record was shown. If there is an outline, there was one before, and it has taken this
 -- record.
-abbrev pub TakesShown : Peer → Option Outline → Option MrtRecord → Option Outline → Type 0
+abbrev pub TakesShown : PeerId → Option Outline → Option MrtRecord → Option Outline → Type 0
 TakesShown server old shown None = Unit {0}
 TakesShown server (Some old) (Some r) (Some new) = TakesRecord server old r new
 TakesShown server old shown (Some new) = ⊥
@@ -47,7 +47,7 @@ whole_by (Err Read) cut gathered = None
 
 -- These records may be all that come. The outline has their content, says whether one of them names the server as its
 -- recorder, and says how they end. `last` is the reader behind them.
-pub record IsFileOutline {R : Type 0} (server : Peer)
+pub record IsFileOutline {R : Type 0} (server : PeerId)
     (comes : RecordReading R → List MrtRecord → Option SourceFault → Type 0) (source : RecordReading R)
     (outline : Outline) : Type 0 where
   pub records : List MrtRecord

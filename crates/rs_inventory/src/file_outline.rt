@@ -7,9 +7,9 @@ ghost use Rattle.rs_inventory.specs.FileOutline.{OutlinesNothing, TakesRecord, e
 use crate::depth::Depth;
 use crate::finding::{Finding, is_peer};
 use crate::inventory::Inventory;
-use crate::peer::Peer;
 use crate::unread::UnreadMessages;
 use rs_mrt::{Cut, MrtFault, Record};
+use rs_types::PeerId;
 use std::alloc::{AllocError, Global};
 
 /// What is known of a file of records by its outline: of each message no more than the type is read.
@@ -43,7 +43,7 @@ impl Outline {
         &mut self,
         alloc: Global,
         record: &Record<'_>,
-        server: Peer,
+        server: PeerId,
     ) -> Result<(), AllocError>
         ensures { OnOk result (TakesRecord server self.old (record_of «record».now) self.new) }
     {
@@ -64,7 +64,7 @@ impl Outline {
 }
 
 // Whether the recorder of a message, if it has one, is the server.
-fn is_recorder(recorder: Option<Peer>, server: Peer) -> bool
+fn is_recorder(recorder: Option<PeerId>, server: PeerId) -> bool
     ensures { result ≡ is_recorder recorder server }
 {
     match recorder {

@@ -14,9 +14,9 @@ ghost use Rattle.rs_inventory.specs.declared.finding.News.TheVariants as news;
 use crate::depth::Depth;
 use crate::kind::{Kind, MESSAGE, session_fields};
 use crate::opening::{four_octet_as, identifier};
-use crate::peer::Peer;
 use byteorder::{BigEndian, ByteOrder};
 use rs_mrt::{AFI_IPV4, Entry, FRONT_LEN, HEADER_LEN, Record, entry};
+use rs_types::PeerId;
 use rs_update::{Message, MessageFault, Update, read_message};
 use std::alloc::{AllocError, Global};
 
@@ -31,7 +31,7 @@ pub(crate) struct Finding {
     /// there.
     pub octets: Option<u64>,
     /// Who recorded it, if it is a message of a session with four-octet AS numbers.
-    pub recorder: Option<Peer>,
+    pub recorder: Option<PeerId>,
     /// What it says of a peer.
     pub note: Option<Note>,
 }
@@ -40,7 +40,7 @@ pub(crate) struct Finding {
 #[derive(Clone, Copy, Debug, PartialEq, Eq)]
 pub struct Note {
     /// Of whom.
-    pub peer: Peer,
+    pub peer: PeerId,
     /// What.
     pub news: News,
 }
@@ -156,7 +156,7 @@ impl Note {
         ensures { result ≡ note_of address asn news }
     {
         Note {
-            peer: Peer { address, asn },
+            peer: PeerId { address, asn },
             news,
         }
     }
@@ -175,21 +175,21 @@ fn octets_of(record: &Record<'_>) -> Option<u64>
 
 /// Who recorded a session with four-octet AS numbers: the Local IP Address and the Local AS of its record (RFC 6396,
 /// sections 4.4.3 and 4.4.4). None if the record is of no session or is shorter than these fields.
-pub fn recorder(record: &Record<'_>) -> Option<Peer>
+pub fn recorder(record: &Record<'_>) -> Option<PeerId>
     ensures { result ≡ recorder_in (fields_of (record_of «record».now)) }
 {
     let fields = session_fields(record)?;
     if fields.len() < AS4_MESSAGE_AT {
         return None;
     }
-    Some(Peer {
+    Some(PeerId {
         address: BigEndian::read_u32(&fields[LOCAL_AT..]),
         asn: BigEndian::read_u32(&fields[LOCAL_AS_AT..]),
     })
 }
 
 // Whether two peers are equal.
-pub(crate) fn is_peer(one: Peer, other: Peer) -> bool
+pub(crate) fn is_peer(one: PeerId, other: PeerId) -> bool
     ensures { result ≡ is_peer one other }
 {
     one.address == other.address && one.asn == other.asn

@@ -10,8 +10,9 @@ use crate::back::{Back, back_with};
 use crate::compression::Compression;
 use crate::finding::{Finding, News, Note};
 use crate::kind::{KINDS, Kind};
-use crate::peer::{Peer, PeerRecords};
+use crate::peer::PeerRecords;
 use rs_mrt::MrtFault;
+use rs_types::PeerId;
 use std::alloc::{AllocError, Global};
 use std::collections::BTreeMap;
 use std::marker::Model;
@@ -29,8 +30,8 @@ pub struct Inventory {
     // How many octets the whole records have, if that is known.
     octets: Option<u64>,
     back: Option<Back>,
-    recorder: Option<Peer>,
-    peers: BTreeMap<Peer, PeerRecords>,
+    recorder: Option<PeerId>,
+    peers: BTreeMap<PeerId, PeerRecords>,
 }
 
 impl Model for Inventory {
@@ -186,14 +187,14 @@ impl Inventory {
 
     /// The AS number and the address of the recorder, as the first message of a session with four-octet AS numbers
     /// names it.
-    pub fn recorder(&self) -> Option<Peer>
+    pub fn recorder(&self) -> Option<PeerId>
         ensures { result ≡ self.now.recorder }
     {
         self.recorder
     }
 
     /// What is recorded of each peer, by address and then AS number.
-    pub fn peers(&self) -> &BTreeMap<Peer, PeerRecords>
+    pub fn peers(&self) -> &BTreeMap<PeerId, PeerRecords>
         ensures { result.now.entries ≡ self.now.peers }
     {
         &self.peers
@@ -203,7 +204,7 @@ impl Inventory {
 // Takes what a record says of a peer.
 fn take_news(
     alloc: Global,
-    peers: &mut BTreeMap<Peer, PeerRecords>,
+    peers: &mut BTreeMap<PeerId, PeerRecords>,
     time: u32,
     note: Note,
 ) -> Result<(), AllocError>
@@ -247,7 +248,7 @@ fn later(last: Option<u32>, time: u32) -> u32
 }
 
 // The recorder that was found first, if one was.
-fn first_known(before: Option<Peer>, found: Option<Peer>) -> Option<Peer>
+fn first_known(before: Option<PeerId>, found: Option<PeerId>) -> Option<PeerId>
     ensures { result ≡ first_of before found }
 {
     match before {

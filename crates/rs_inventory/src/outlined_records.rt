@@ -14,8 +14,8 @@ ghost use Rattle.rs_inventory.specs.OutlinedRecords.{Gathers, TakesShown, whole_
 
 use crate::file_outline::Outline;
 use crate::outline_slot::OutlineSlot;
-use crate::peer::Peer;
 use rs_mrt::{Read, Record, RecordReader, Source, SourceFault};
+use rs_types::PeerId;
 use std::alloc::Global;
 use std::marker::Model;
 
@@ -24,7 +24,7 @@ use std::marker::Model;
 pub struct Outlined<'a, R: Read> {
     source: RecordReader<R>,
     alloc: Global,
-    server: Peer,
+    server: PeerId,
     // What the records so far hold; none if nobody wants it, if memory was refused, or once the records ended.
     outline: Option<Outline>,
     slot: Option<&'a OutlineSlot>,
@@ -44,7 +44,7 @@ impl<'a, R: Read> Outlined<'a, R> {
     pub fn new(
         alloc: Global,
         source: RecordReader<R>,
-        server: Peer,
+        server: PeerId,
         slot: Option<&'a OutlineSlot>,
     ) -> Outlined<'a, R>
         ensures source { result.source ≡ source }

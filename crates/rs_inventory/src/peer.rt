@@ -11,15 +11,6 @@ use crate::sessions::{SessionTimes, Sessions};
 use std::alloc::{AllocError, Global};
 use std::marker::Model;
 
-/// A peer as records name it. Peers are ordered by address, then by AS number.
-#[derive(Clone, Copy, Debug, PartialEq, Eq, PartialOrd, Ord)]
-pub struct Peer {
-    /// The Peer IP Address, IPv4, in host order.
-    pub address: u32,
-    /// The Peer AS.
-    pub asn: u32,
-}
-
 /// What the records of one peer say. Each count stops at 2 to the 64th less 1.
 #[derive(Debug, Drop)]
 pub struct PeerRecords {

@@ -16,8 +16,8 @@ use crate::file_outline::Outline;
 use crate::finding::Finding;
 use crate::front::{Front, Whole};
 use crate::inventory::Inventory;
-use crate::peer::Peer;
 use rs_mrt::{Bounds, Failed, Lenient, MrtFault, Read, RecordReader, Source, SourceFault};
+use rs_types::PeerId;
 use std::alloc::{AllocError, Global};
 use thiserror::Error;
 
@@ -101,7 +101,7 @@ pub fn read_outline<S: Source + Drop>(alloc: Global, source: S) -> Result<Invent
 pub fn outline_of<R: Read + Drop>(
     alloc: Global,
     mut source: RecordReader<R>,
-    server: Peer,
+    server: PeerId,
 ) -> Result<Outline, InventoryFault>
     // It is the outline of records that the source may give, to their end. It tells of no compression.
     ensures outline { IfOk result (IsFileOutline server (MayCome R.gives) source) }

@@ -5,10 +5,9 @@
 //! Our choices: only an UPDATE or a NOTIFICATION counts, since no other message changes a route. What the recorder sent
 //! (RFC 8050, section 4) doesn't count. Large communities count only in an UPDATE that has NLRI.
 
-use crate::peer::Peer;
 use byteorder::{BigEndian, ByteOrder};
 use rs_mrt::{AFI_IPV4, BGP4MP, BGP4MP_ET, MESSAGE_AS4, Record};
-use rs_types::split_item;
+use rs_types::{PeerId, split_item};
 use std::alloc::{AllocError, Global};
 use std::collections::BTreeMap;
 use std::marker::Model;
@@ -102,15 +101,15 @@ impl Unread {
 /// The messages of a file that aren't read, by peer.
 #[derive(Drop)]
 pub struct UnreadMessages {
-    peers: BTreeMap<Peer, Unread>,
+    peers: BTreeMap<PeerId, Unread>,
 }
 
 impl Model for UnreadMessages {
     ghost use Rattle.std.specs.Prelude.{List};
-    ghost use Rattle.rs_inventory.specs.declared.peer.Peer.{Peer};
+    ghost use Rattle.rs_types.specs.declared.peer_id.PeerId.{PeerId};
     ghost use Rattle.rs_inventory.specs.declared.unread.Unread.{Unread};
 
-    ghost Value = { List (Peer × Unread) };
+    ghost Value = { List (PeerId × Unread) };
 
     ghost view = { λ u. u.peers.entries };
 }
@@ -138,12 +137,12 @@ impl UnreadMessages {
 
     /// How many messages of a peer aren't read. If its own AS number has four octets, messages with two-octet AS
     /// numbers are found by its address.
-    pub fn of(&self, peer: Peer) -> Unread {
+    pub fn of(&self, peer: PeerId) -> Unread {
         let own = self.count_of(peer);
         if peer.asn <= u32::from(u16::MAX) {
             return own;
         }
-        let narrow = self.count_of(Peer {
+        let narrow = self.count_of(PeerId {
             address: peer.address,
             asn: AS_TRANS,
         });
@@ -151,7 +150,7 @@ impl UnreadMessages {
     }
 
     // How many aren't read of a peer as records name it.
-    fn count_of(&self, peer: Peer) -> Unread {
+    fn count_of(&self, peer: PeerId) -> Unread {
         match self.peers.get(&peer) {
             Some(unread) => *unread,
             None => Unread::none(),
@@ -160,7 +159,7 @@ impl UnreadMessages {
 }
 
 // Of whom a record has a message that isn't read, or not all of it, and which kind that is.
-fn unread_in(record: &Record<'_>, server: u32) -> Option<(Peer, Unread)> {
+fn unread_in(record: &Record<'_>, server: u32) -> Option<(PeerId, Unread)> {
     let fields = session_fields(record)?;
     let is_wide = match record.subtype {
         MESSAGE => false,
@@ -202,7 +201,7 @@ fn session_fields<'a>(record: &Record<'a>) -> Option<&'a [u8]> {
 
 // The peer that such fields name, with AS numbers of four octets or of two, and the message behind them. None if it is
 // no IPv4 peer.
-fn split_message(fields: &[u8], is_wide: bool) -> Option<(Peer, &[u8])> {
+fn split_message(fields: &[u8], is_wide: bool) -> Option<(PeerId, &[u8])> {
     let moved = if is_wide { WIDER } else { 0 };
     let message = fields.get(MESSAGE_AT.saturating_add(moved)..)?;
     let rest = fields.get(moved..)?;
@@ -215,7 +214,7 @@ fn split_message(fields: &[u8], is_wide: bool) -> Option<(Peer, &[u8])> {
     } else {
         u32::from(BigEndian::read_u16(fields.get(..WIDER)?))
     };
-    Some((Peer { address, asn }, message))
+    Some((PeerId { address, asn }, message))
 }
 
 // What isn't read of an UPDATE: IPv6 routes, and large communities of the server.

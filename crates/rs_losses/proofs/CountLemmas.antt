@@ -44,7 +44,7 @@ module _ {S : Type 0} (shows : S → Option MrtRecord) (comes : S → List MrtRe
       ≡ r ∷ pending new.put_in (shows new.source) (losses_along new.followed all))
 
   module _ (may : (source : S) → SomethingComes (comes source)) (old : Inferring S) (source : S) (f : Followed) (put_in : Bool)
-      (r : MrtRecord) (some : 0 < old.left) (shown : loss_or put_in f.peer (shows source) ≡ Some r)
+      (r : MrtRecord) (some : 0 < old.left) (shown : loss_or put_in f.who (shows source) ≡ Some r)
       (peels : Peels old (record old { source = source; followed = f; put_in = put_in }) r)
       (same : failures source ≡ failures old.source) (goes : stopped source ≡ None) (went : repeated (stopped old.source) ≡ None) where
     abbrev mid : Inferring S
@@ -66,7 +66,7 @@ module _ {S : Type 0} (shows : S → Option MrtRecord) (comes : S → List MrtRe
         let fewer : len < old.left = ltb-true len old.left fits in
         let left : 0 < old.left - len = omega (arith, fewer) in
         let is_shown : shown_of shows new ≡ Some r =
-        below-limit (old.left - len) None (loss_or put_in f.peer (shows source)) left ∙ shown in
+        below-limit (old.left - len) None (loss_or put_in f.who (shows source)) left ∙ shown in
         let takes : octets_of (shown_of shows new) ≡ len = ap octets_of is_shown in
         record {
           records = subst (λ (s : Option MrtRecord). Advances (ComesInferred shows comes) old new s (Ok true)) (sym is_shown)

@@ -13,10 +13,10 @@ use Rattle.rs_inventory.specs.Course.{Timed, is_up}
 use Rattle.rs_inventory.specs.Outline.{note_by, outline_note}
 use Rattle.rs_inventory.specs.declared.finding.News.{News}
 use Rattle.rs_inventory.specs.declared.finding.News.TheVariants as news
-use Rattle.rs_inventory.specs.declared.peer.Peer.{Peer}
+use Rattle.rs_types.specs.declared.peer_id.PeerId.{PeerId}
 use Rattle.rs_session.specs.Effect.{effect_of, effect_of_entry}
-use Rattle.rs_losses.specs.Laws.{IsSought, LossIsJustALoss, ShownAreThose, session_of}
-use Rattle.rs_losses.specs.Losses.{behind_record, is_session_up, loss_record, lost, news_of, peer_of, shows_loss, told_by, up_with}
+use Rattle.rs_losses.specs.Laws.{IsSought, LossIsJustALoss, ShownAreThose}
+use Rattle.rs_losses.specs.Losses.{behind_record, is_session_up, loss_record, lost, news_of, shows_loss, told_by, up_with}
 use Rattle.rs_losses.specs.Losses.{with_losses_behind}
 use Rattle.rs_losses.specs.WithLosses.{losses_along}
 use Rattle.rs_losses.specs.declared.following.Followed.{Followed}
@@ -28,26 +28,26 @@ use Rattle.rs_losses.specs.declared.losses.Sought.{Sought}
 abbrev lost_state : ℕ → ℕ → Result Meaning MrtFault
 lost_state asn address = Ok (State asn address 6 0)
 
-loss-says : (who : Sought) (time : ℕ) → IsSought who → entry_of (loss_record who time) ≡ lost_state who.asn who.address
+loss-says : (who : Sought) (time : ℕ) → IsSought who → entry_of (loss_record who time) ≡ lost_state who.peer.asn who.peer.address
 unfolding entry_of fields_entry
 loss-says who time fits =
     let body = (loss_record who time).body in
-    let asn : big_number 4 body ≡ who.asn = big_number-reads_back 4 who.asn (drop 4 body) fits.1 in
-    let address : big_number 4 (drop 12 body) ≡ who.address = big_number-reads_back 4 who.address (drop 16 body) fits.0 in
-    ap (λ (n : ℕ). lost_state n (big_number 4 (drop 12 body))) asn ∙ ap (λ (n : ℕ). lost_state who.asn n) address
+    let asn : big_number 4 body ≡ who.peer.asn = big_number-reads_back 4 who.peer.asn (drop 4 body) fits.1 in
+    let address : big_number 4 (drop 12 body) ≡ who.peer.address = big_number-reads_back 4 who.peer.address (drop 16 body) fits.0 in
+    ap (λ (n : ℕ). lost_state n (big_number 4 (drop 12 body))) asn ∙ ap (λ (n : ℕ). lost_state who.peer.asn n) address
 
 -- to the session of the peer
 pub loss-law : LossIsJustALoss
 unfolding effect_of
 loss-law errors who time fits =
-    ap (effect_of_entry errors (session_of who) time) (loss-says who time fits)
-    ∙ cond-true _ _ _ (and_from _ _ (eq-eqb who.asn who.asn refl) (eq-eqb who.address who.address refl))
+    ap (effect_of_entry errors who.peer time) (loss-says who time fits)
+    ∙ cond-true _ _ _ (and_from _ _ (eq-eqb who.peer.asn who.peer.asn refl) (eq-eqb who.peer.address who.peer.address refl))
 
 -- to the one who follows it
-loss-down : (who : Sought) (time : ℕ) → IsSought who → news_of (peer_of who) (outline_note (loss_record who time)) ≡ Some news.Down
+loss-down : (who : Sought) (time : ℕ) → IsSought who → news_of who.peer (outline_note (loss_record who time)) ≡ Some news.Down
 loss-down who time fits =
-    ap (λ (says : Result Meaning MrtFault). news_of (peer_of who) (note_by (loss_record who time) says)) (loss-says who time fits)
-    ∙ cond-true _ _ _ (and_from _ _ (eq-eqb who.address who.address refl) (eq-eqb who.asn who.asn refl))
+    ap (λ (says : Result Meaning MrtFault). news_of who.peer (note_by (loss_record who time) says)) (loss-says who time fits)
+    ∙ cond-true _ _ _ (and_from _ _ (eq-eqb who.peer.address who.peer.address refl) (eq-eqb who.peer.asn who.peer.asn refl))
 
 -- ---- the session behind one record more
 
@@ -56,25 +56,25 @@ up-option : (time : ℕ) (told : Option News) (earlier : List Timed)
 up-option time None earlier = refl
 up-option time (Some one) earlier = refl
 
-up-more : (peer : Peer) (r : MrtRecord) (given : List MrtRecord)
+up-more : (peer : PeerId) (r : MrtRecord) (given : List MrtRecord)
     → is_session_up peer (r ∷ given) ≡ up_with (is_session_up peer given) (news_of peer (outline_note r))
 up-more peer r given = up-option r.time (news_of peer (outline_note r)) (filter_map (told_by peer) given)
 
 abbrev followed_at : Sought → List MrtRecord → Followed
-followed_at who given = record { peer = who; up = is_session_up (peer_of who) given }
+followed_at who given = record { who = who; up = is_session_up who.peer given }
 
 behind-kept : (who : Sought) (r : MrtRecord) (given : List MrtRecord)
     → behind_record (followed_at who given) r ≡ followed_at who (r ∷ given)
-behind-kept who r given = ap (λ (up : Bool). record { peer = who; up = up }) (sym (up-more (peer_of who) r given))
+behind-kept who r given = ap (λ (up : Bool). record { who = who; up = up }) (sym (up-more who.peer r given))
 
 behind-lost : (who : Sought) (r : MrtRecord) (given : List MrtRecord) → IsSought who
     → behind_record (lost (followed_at who given)) r ≡ followed_at who (r ∷ loss_record who r.time ∷ given)
 behind-lost who r given fits =
-    let peer = peer_of who in
+    let peer = who.peer in
     let one = loss_record who r.time in
     let down : is_session_up peer (one ∷ given) ≡ false =
     up-more peer one given ∙ ap (up_with (is_session_up peer given)) (loss-down who r.time fits) in
-    ap (λ (up : Bool). record { peer = who; up = up })
+    ap (λ (up : Bool). record { who = who; up = up })
     (sym (up-more peer r (one ∷ given) ∙ ap (λ (up : Bool). up_with up (news_of peer (outline_note r))) down))
 
 -- ---- the records

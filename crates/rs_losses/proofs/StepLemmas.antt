@@ -23,7 +23,7 @@ before_by is_lost f = record f { up = not is_lost && f.up }
 
 along-by : (is_lost : Bool) (f : Followed) (r : MrtRecord) (later : List MrtRecord) → is_lost_before f r ≡ is_lost
     → losses_along f (r ∷ later)
-    ≡ met_first is_lost f.peer r ∷ pending is_lost (Some r) (losses_along (behind_record (before_by is_lost f) r) later)
+    ≡ met_first is_lost f.who r ∷ pending is_lost (Some r) (losses_along (behind_record (before_by is_lost f) r) later)
 along-by true f r later same = cond-true _ _ _ same
 along-by false f r later same = cond-false _ _ _ same
 
@@ -89,7 +89,7 @@ module _ {S : Type 0} (shows : S → Option MrtRecord) (comes : S → List MrtRe
         let some = may old.source in
         let all = pending old.put_in (shows old.source) (losses_along old.followed some.0) in
         let none : shown_of shows old ≡ None =
-        ap (λ (n : ℕ). at_limit n None (loss_or old.put_in old.followed.peer (shows old.source))) full_now in
+        ap (λ (n : ℕ). at_limit n None (loss_or old.put_in old.followed.who (shows old.source))) full_now in
         let repeats : stopped_of stopped old ≡ Some (Err Read) =
         ap (λ (n : ℕ). at_limit n (Some (Err Read)) (repeated (stopped old.source))) full_now in
         let takes : octets_of (shown_of shows old) ≡ 0 = ap octets_of none in
@@ -145,7 +145,7 @@ module _ {S : Type 0} (shows : S → Option MrtRecord) (comes : S → List MrtRe
         let behind = behind_record (before_record f r) r in
         let before : (later : List MrtRecord) (end : Option SourceFault) → comes source later end → comes old.source (r ∷ later) end =
         subst (λ (s : Option MrtRecord). Advances comes old.source source s (Ok true)) one.1 advances in
-        let first = met_first is_lost f.peer r in
+        let first = met_first is_lost f.who r in
         let mid : Inferring S = record old { source = source; followed = behind; put_in = is_lost } in
         let peels : Peels shows comes stopped failures full old mid first = λ all last given.
         (let rest = losses_along behind all in (
@@ -155,7 +155,7 @@ module _ {S : Type 0} (shows : S → Option MrtRecord) (comes : S → List MrtRe
               ∙ ap (λ (s : Option MrtRecord). first ∷ pending is_lost s rest) (sym one.1),
         )) in
         counted-is shows comes stopped failures full may old source behind is_lost first some
-        (ap (loss_or is_lost f.peer) one.1 ∙ shown-by is_lost f.peer r) peels same goes
+        (ap (loss_or is_lost f.who) one.1 ∙ shown-by is_lost f.who r) peels same goes
         (repeats-none (stopped old.source) (failures old.source) (failures source) stays) new result (octets_first f r) refl
         (is_new r one.1) (is_result r one.1)
 
@@ -166,8 +166,8 @@ module _ {S : Type 0} (shows : S → Option MrtRecord) (comes : S → List MrtRe
 
       shows-none : shows source ≡ None → shown_of shows ended ≡ None
       shows-none none =
-          below-limit old.left None (loss_or old.put_in old.followed.peer (shows source)) some
-          ∙ ap (λ (b : Bool). loss_or b old.followed.peer (shows source)) put_in ∙ none
+          below-limit old.left None (loss_or old.put_in old.followed.who (shows source)) some
+          ∙ ap (λ (b : Bool). loss_or b old.followed.who (shows source)) put_in ∙ none
 
       comes-end : (end : Option SourceFault) → comes old.source [] end → ComesInferred shows comes old [] end
       comes-end end given =

@@ -2,7 +2,6 @@
 use Rattle.std.specs.Prelude.{◌≡◌, ℕ, ◌^◌, ◌<◌, List}
 use Rattle.rs_mrt.specs.Record.{MrtRecord}
 use Rattle.rs_session.specs.Effect.{effect_of, loss}
-use Rattle.rs_session.specs.declared.peer.PeerId.{PeerId}
 use Rattle.rs_update.specs.declared.errors.Errors.{Errors}
 use Rattle.rs_losses.specs.Losses.{from_the_first, loss_record, with_losses}
 use Rattle.rs_losses.specs.WithLosses.{losses_along}
@@ -10,7 +9,7 @@ use Rattle.rs_losses.specs.declared.losses.Sought.{Sought}
 
 -- the address and the AS number of a peer have four octets each
 abbrev pub IsSought : Sought → Type 0
-IsSought who = (who.address < 2 ^ 32) × (who.asn < 2 ^ 32)
+IsSought who = (who.peer.address < 2 ^ 32) × (who.peer.asn < 2 ^ 32)
 
 -- the records that a source with losses shows are the records of the source with the losses inserted
 abbrev pub ShownAreThose : Type 0
@@ -18,11 +17,7 @@ ShownAreThose =
     (who : Sought) (records : List MrtRecord) → IsSought who
     → losses_along (from_the_first who) records ≡ with_losses who records
 
--- the peer, as a session identifies it
-abbrev pub session_of : Sought → PeerId
-session_of who = record { asn = who.asn; address = who.address }
-
 -- the only meaning of a record that is inserted is that the session is lost
 abbrev pub LossIsJustALoss : Type 0
 LossIsJustALoss = (errors : Errors) (who : Sought) (time : ℕ) → IsSought who
-    → effect_of errors (session_of who) (loss_record who time) ≡ loss time
+    → effect_of errors who.peer (loss_record who time) ≡ loss time

@@ -12,28 +12,24 @@ use Rattle.rs_inventory.specs.Kind.{fields_of}
 use Rattle.rs_inventory.specs.Outline.{outline_note}
 use Rattle.rs_inventory.specs.declared.finding.News.{News}
 use Rattle.rs_inventory.specs.declared.finding.Note.{Note}
-use Rattle.rs_inventory.specs.declared.peer.Peer.{Peer}
+use Rattle.rs_types.specs.declared.peer_id.PeerId.{PeerId}
 use Rattle.rs_losses.specs.declared.following.Followed.{Followed}
 use Rattle.rs_losses.specs.declared.losses.Sought.{Sought}
 
 -- ---- what records mean for the peer
 
--- the peer, as records identify it
-abbrev pub peer_of : Sought → Peer
-peer_of who = record { address = who.address; asn = who.asn }
-
 -- the meaning of a note for a peer
-abbrev pub news_of : Peer → Option Note → Option News
+abbrev pub news_of : PeerId → Option Note → Option News
 news_of peer None = None
 news_of peer (Some note) = if is_peer note.peer peer then Some note.news else None
 
 -- the meaning of a record for the peer, with its Timestamp
-abbrev pub told_by : Peer → MrtRecord → Option Timed
+abbrev pub told_by : PeerId → MrtRecord → Option Timed
 told_by peer r = option_map (λ news. (r.time, news)) (news_of peer (outline_note r))
 
 -- The session is up after these records, which are in reverse order. An UPDATE or a change to Established since its
 -- last loss shows it (RFC 4271, section 8.2.2).
-abbrev pub is_session_up : Peer → List MrtRecord → Bool
+abbrev pub is_session_up : PeerId → List MrtRecord → Bool
 is_session_up peer given = is_up (filter_map (told_by peer) given)
 
 -- ---- which records show a loss
@@ -44,33 +40,33 @@ is_begun None = false
 is_begun (Some news) = begins news
 
 -- the recorder of a session has this address: it is the Local IP Address (RFC 6396, sections 4.4.3 and 4.4.4)
-abbrev pub is_recorder : Option Peer → ℕ → Bool
+abbrev pub is_recorder : Option PeerId → ℕ → Bool
 is_recorder None address = false
 is_recorder (Some recorder) address = recorder.address == address
 
 -- A loss is recorded with the AS number of the peer, but with another address. The address is 0.0.0.0, and no other
 -- peer has that AS number. Or the two addresses are swapped, so that the peer's stands as the recorder's.
-abbrev pub is_misplaced : Sought → Option Note → Option Peer → Bool
+abbrev pub is_misplaced : Sought → Option Note → Option PeerId → Bool
 is_misplaced who None recorder = false
 is_misplaced who (Some note) recorder =
-    is_loss note.news && ((note.peer.asn == who.asn) && (not (note.peer.address == who.address)
-    && (((note.peer.address == 0) && who.alone) || is_recorder recorder who.address)))
+    is_loss note.news && ((note.peer.asn == who.peer.asn) && (not (note.peer.address == who.peer.address)
+    && (((note.peer.address == 0) && who.alone) || is_recorder recorder who.peer.address)))
 
 -- A record shows that a session which is up was lost before it: a new session begins, or the loss is recorded with
 -- another address.
 abbrev pub tells_of_loss : Sought → MrtRecord → Bool
 tells_of_loss who r =
-    is_begun (news_of (peer_of who) (outline_note r)) || is_misplaced who (outline_note r) (recorder_in (fields_of r))
+    is_begun (news_of who.peer (outline_note r)) || is_misplaced who (outline_note r) (recorder_in (fields_of r))
 
 -- a record shows a loss, if these records, in reverse order, were given before it
 abbrev pub shows_loss : Sought → List MrtRecord → MrtRecord → Bool
-shows_loss who given r = is_session_up (peer_of who) given && tells_of_loss who r
+shows_loss who given r = is_session_up who.peer given && tells_of_loss who r
 
 -- ---- the session that is followed, record by record
 
 -- it is followed from the first record on
 abbrev pub from_the_first : Sought → Followed
-from_the_first who = record { peer = who; up = false }
+from_the_first who = record { who = who; up = false }
 
 -- whether it is up after a record with this meaning for the peer
 abbrev pub up_with : Bool → Option News → Bool
@@ -79,7 +75,7 @@ up_with up (Some news) = if is_loss news then false else shows_up news || up
 
 -- the session after a record
 abbrev pub behind_record : Followed → MrtRecord → Followed
-behind_record f r = record f { up = up_with f.up (news_of (peer_of f.peer) (outline_note r)) }
+behind_record f r = record f { up = up_with f.up (news_of f.who.peer (outline_note r)) }
 
 -- the session after its loss
 abbrev pub lost : Followed → Followed
@@ -87,7 +83,7 @@ lost f = record f { up = false }
 
 -- a loss comes before this record
 abbrev pub is_lost_before : Followed → MrtRecord → Bool
-is_lost_before f r = f.up && tells_of_loss f.peer r
+is_lost_before f r = f.up && tells_of_loss f.who r
 
 -- the session before a record, or behind the loss before it
 abbrev pub before_record : Followed → MrtRecord → Followed
@@ -109,7 +105,7 @@ loss_record who time = record {
   time = time;
   kind = type_bgp4mp;
   subtype = subtype_state_change_as4;
-  body = big_bytes 4 who.asn ++ big_bytes 4 0 ++ big_bytes 2 0 ++ big_bytes 2 family_ipv4 ++ big_bytes 4 who.address
+  body = big_bytes 4 who.peer.asn ++ big_bytes 4 0 ++ big_bytes 2 0 ++ big_bytes 2 family_ipv4 ++ big_bytes 4 who.peer.address
       ++ big_bytes 4 0 ++ big_bytes 2 established ++ big_bytes 2 no_state;
 }
 

@@ -22,7 +22,7 @@ abbrev pub losses_along : Followed → List MrtRecord → List MrtRecord
 losses_along f [] = []
 losses_along f (r ∷ later) =
     if is_lost_before f r
-    then loss_record f.peer r.time ∷ r ∷ losses_along (behind_record (lost f) r) later
+    then loss_record f.who r.time ∷ r ∷ losses_along (behind_record (lost f) r) later
     else r ∷ losses_along (behind_record f r) later
 
 -- at the limit the one value, and else the other
@@ -98,7 +98,7 @@ pub record HoldsLoss (by : Losses) (put_in : Bool) (shown : Option MrtRecord)
 
 module _ {S : Type 0} where
   abbrev pub shown_of : (S → Option MrtRecord) → Inferring S → Option MrtRecord
-  shown_of shows w = at_limit w.left None (loss_or w.put_in w.followed.peer (shows w.source))
+  shown_of shows w = at_limit w.left None (loss_or w.put_in w.followed.who (shows w.source))
 
   abbrev pub shown_by : Losses → (S → Option MrtRecord) → Inferring S → Option MrtRecord
   shown_by losses.Recorded shows w = shows w.source
@@ -181,7 +181,7 @@ met_first false who r = r
 
 -- how many octets that takes
 abbrev pub octets_first : Followed → MrtRecord → ℕ
-octets_first f r = octets_of (Some (met_first (is_lost_before f r) f.peer r))
+octets_first f r = octets_of (Some (met_first (is_lost_before f r) f.who r))
 
 module _ {S : Type 0} where
   -- a record of so many octets is shown; at the limit none is, from then on

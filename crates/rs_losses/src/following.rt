@@ -8,17 +8,18 @@
 ghost use Rattle.std.specs.Prelude.{◌≡◌};
 ghost use Rattle.rs_mrt.specs.Record.{record_of};
 ghost use Rattle.rs_losses.specs.Losses.{before_record, behind_record, is_begun, is_lost_before, is_misplaced};
-ghost use Rattle.rs_losses.specs.Losses.{is_recorder, news_of, peer_of, up_with};
+ghost use Rattle.rs_losses.specs.Losses.{is_recorder, news_of, up_with};
 
 use crate::losses::Sought;
-use rs_inventory::{News, Note, Peer, outlined, recorder};
+use rs_inventory::{News, Note, outlined, recorder};
 use rs_mrt::Record;
+use rs_types::PeerId;
 
 /// The session that is followed.
 #[derive(Clone, Copy, Debug, PartialEq, Eq, Drop)]
 pub(crate) struct Followed {
     /// Whose it is.
-    pub peer: Sought,
+    pub who: Sought,
     /// Whether it is up, by the records so far.
     pub up: bool,
 }
@@ -29,7 +30,7 @@ impl Followed {
         ensures { result ≡ record self { up = up_with self.up news } }
     {
         Followed {
-            peer: self.peer,
+            who: self.who,
             up: match news {
                 Some(news) => !news.is_loss() && (news.shows_up() || self.up),
                 None => self.up,
@@ -44,11 +45,11 @@ impl Followed {
             ≡ behind_record (before_record self (record_of recorded.now)) (record_of recorded.now) }
     {
         let note = outlined(recorded);
-        let news = news_of(note, self.peer);
+        let news = news_of(note, self.who.peer);
         let is_lost = self.up
-            && (is_begun(news) || is_misplaced(note, recorder(recorded), self.peer));
+            && (is_begun(news) || is_misplaced(note, recorder(recorded), self.who));
         let before = Followed {
-            peer: self.peer,
+            who: self.who,
             up: !is_lost && self.up,
         };
         (is_lost, before.behind(news))
@@ -56,8 +57,8 @@ impl Followed {
 }
 
 // What a note says of the peer itself.
-fn news_of(note: Option<Note>, peer: Sought) -> Option<News>
-    ensures { result ≡ news_of (peer_of peer) note }
+fn news_of(note: Option<Note>, peer: PeerId) -> Option<News>
+    ensures { result ≡ news_of peer note }
 {
     let note = note?;
     if note.peer.address == peer.address && note.peer.asn == peer.asn {
@@ -78,20 +79,20 @@ fn is_begun(news: Option<News>) -> bool
 }
 
 // Whether a note is of the peer's loss, under another address than the peer's.
-fn is_misplaced(note: Option<Note>, recorder: Option<Peer>, peer: Sought) -> bool
-    ensures { result ≡ is_misplaced peer note recorder }
+fn is_misplaced(note: Option<Note>, recorder: Option<PeerId>, who: Sought) -> bool
+    ensures { result ≡ is_misplaced who note recorder }
 {
     let Some(note) = note else {
         return false;
     };
     note.news.is_loss()
-        && note.peer.asn == peer.asn
-        && note.peer.address != peer.address
-        && ((note.peer.address == 0 && peer.alone) || is_recorder(recorder, peer.address))
+        && note.peer.asn == who.peer.asn
+        && note.peer.address != who.peer.address
+        && ((note.peer.address == 0 && who.alone) || is_recorder(recorder, who.peer.address))
 }
 
 // Whether the recorder has this address.
-fn is_recorder(recorder: Option<Peer>, address: u32) -> bool
+fn is_recorder(recorder: Option<PeerId>, address: u32) -> bool
     ensures { result ≡ is_recorder recorder address }
 {
     match recorder {

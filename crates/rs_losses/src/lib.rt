@@ -13,4 +13,5 @@ mod with_losses;
 
 pub use laws::{a_loss_that_is_put_in_says_just_a_loss, what_a_source_with_losses_shows};
 pub use losses::Sought;
+pub use rs_types::PeerId;
 pub use with_losses::WithLosses;

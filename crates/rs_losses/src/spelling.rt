@@ -28,13 +28,13 @@ const ESTABLISHED: u16 = 6;
 const NO_STATE: u16 = 0;
 
 /// The body of a record that says that the session was lost.
-pub(crate) fn loss_body(peer: Sought) -> [u8; BODY_LEN]
-    ensures { result ≡ (loss_record peer 0).body }
+pub(crate) fn loss_body(who: Sought) -> [u8; BODY_LEN]
+    ensures { result ≡ (loss_record who 0).body }
 {
     let mut body = [0; BODY_LEN];
-    BigEndian::write_u32(&mut body, peer.asn);
+    BigEndian::write_u32(&mut body, who.peer.asn);
     BigEndian::write_u16(&mut body[FAMILY_AT..], AFI_IPV4);
-    BigEndian::write_u32(&mut body[PEER_AT..], peer.address);
+    BigEndian::write_u32(&mut body[PEER_AT..], who.peer.address);
     BigEndian::write_u16(&mut body[OLD_STATE_AT..], ESTABLISHED);
     BigEndian::write_u16(&mut body[NEW_STATE_AT..], NO_STATE);
     body

@@ -51,22 +51,22 @@ impl<S: Source> Model for WithLosses<S> {
     } };
 
     ghost invariant = { λ w. HoldsLoss w.losses w.put_in (S.shows w.source) (S.stopped w.source)
-        w.followed.peer w.body };
+        w.followed.who w.body };
 }
 
 impl<S: Source> WithLosses<S> {
     /// Begins with the next record of the source. It takes no memory, and doesn't read yet.
-    pub fn new(source: S, losses: Losses, peer: Sought) -> WithLosses<S>
-        ensures value { result ≡ unbegun source losses peer }
+    pub fn new(source: S, losses: Losses, who: Sought) -> WithLosses<S>
+        ensures value { result ≡ unbegun source losses who }
         ensures comes { (records : List MrtRecord) (end : Option SourceFault)
             → ComesBy result.losses S.shows S.comes result records end
-            → ComesFirst losses peer (S.comes source) records end }
+            → ComesFirst losses who (S.comes source) records end }
     {
         WithLosses {
             source,
             losses,
-            followed: Followed { peer, up: false },
-            body: loss_body(peer),
+            followed: Followed { who, up: false },
+            body: loss_body(who),
             put_in: false,
             left: READ_LIMIT,
         }
@@ -81,7 +81,7 @@ impl<S: Source> WithLosses<S> {
 
     // The loss at this time.
     fn loss_at(&self, time: u32) -> Record<'_>
-        ensures { record_of result ≡ loss_record self.now.followed.peer time }
+        ensures { record_of result ≡ loss_record self.now.followed.who time }
     {
         Record {
             time,

@@ -13,7 +13,7 @@ use Rattle.rs_inventory.specs.Peer.{PeerContent, counted}
 use Rattle.rs_inventory.specs.declared.compression.Compression.{Compression}
 use Rattle.rs_inventory.specs.declared.kind.Kind.{Kind}
 use Rattle.rs_inventory.specs.declared.kind.Kind.TheVariants as kinds
-use Rattle.rs_inventory.specs.declared.peer.Peer.{Peer}
+use Rattle.rs_types.specs.declared.peer_id.PeerId.{PeerId}
 
 -- how many records of a kind there are
 abbrev pub count_of : Content → Kind → ℕ
@@ -24,7 +24,7 @@ abbrev pub records_in : Option PeerContent → ℕ
 records_in None = 0
 records_in (Some content) = counted (content.messages + content.state_changes)
 
-abbrev pub records_of : Content → Peer → ℕ
+abbrev pub records_of : Content → PeerId → ℕ
 records_of held peer = records_in (peer_at held.peers peer)
 
 -- the records have room for the fields of a session after their headers
@@ -54,16 +54,16 @@ only_kind held =
     else None
 
 -- the note on a file that isn't compressed
-abbrev pub hint_of_records : Content → List ℕ → Peer → Option Hint
+abbrev pub hint_of_records : Content → List ℕ → PeerId → Option Hint
 hint_of_records held front peer =
     if nat_lt 0 (records_of held peer) then None
     else if not (is_known held) then option_map NotMrt (format_of front)
     else Some (NoRecord held.records (only_kind held))
 
-abbrev pub hint_unless : Option Compression → Content → List ℕ → Peer → Option Hint
+abbrev pub hint_unless : Option Compression → Content → List ℕ → PeerId → Option Hint
 hint_unless (Some compression) held front peer = Some (NotMrt (Compressed compression))
 hint_unless None held front peer = hint_of_records held front peer
 
 -- the note on a file that has this content and begins with these octets
-abbrev pub hint_of : Content → List ℕ → Peer → Option Hint
+abbrev pub hint_of : Content → List ℕ → PeerId → Option Hint
 hint_of held front peer = hint_unless held.compression held front peer

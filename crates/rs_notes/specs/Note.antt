@@ -9,7 +9,7 @@ use Rattle.rs_notes.specs.declared.hint.Hint.{Hint}
 use Rattle.rs_notes.specs.declared.hint.Hint.TheVariants.{NotMrt, NoRecord}
 use Rattle.rs_inventory.specs.declared.kind.Kind.{Kind}
 use Rattle.rs_inventory.specs.declared.kind.Kind.TheVariants as kinds
-use Rattle.rs_inventory.specs.declared.peer.Peer.{Peer}
+use Rattle.rs_types.specs.declared.peer_id.PeerId.{PeerId}
 use Rattle.rs_mrt.specs.declared.bounds.Tail.{Tail}
 use Rattle.rs_mrt.specs.declared.bounds.Tail.TheVariants.{Strict, Lenient}
 use Rattle.rs_host.specs.Line.{Text, one_line}
@@ -28,7 +28,7 @@ abbrev pub format_text : Text → Text → Text
 format_text path format = one_line path ++ (codes " is " ++ (format ++ codes "; only uncompressed MRT is read"))
 
 -- the text that says whose records are looked for
-abbrev pub whose_text : Peer → Text
+abbrev pub whose_text : PeerId → Text
 whose_text peer = ipv4_text (to_be_bytes w32 peer.address) ++ (codes " AS " ++ decimal peer.asn)
 
 -- how many records there are, and of what kind
@@ -42,12 +42,12 @@ others_text path whose count =
     codes "no record of " ++ (whose ++ (codes " in " ++ (one_line path ++ (codes " (" ++ (count ++ codes ")")))))
 
 -- the text of each note
-abbrev pub text_of : Text → Peer → Hint → Text
+abbrev pub text_of : Text → PeerId → Hint → Text
 text_of path peer (NotMrt format) = format_text path (format_name format)
 text_of path peer (NoRecord others kind) = others_text path (whose_text peer) (count_text others kind)
 
 -- the text of a note about a peer of this name
-abbrev pub note_of : Text → Text → Peer → Hint → Text
+abbrev pub note_of : Text → Text → PeerId → Hint → Text
 note_of name path peer hint = codes "peer " ++ (name ++ (codes ": " ++ text_of path peer hint))
 
 -- the text that says what is done with a record that is cut short

@@ -6,11 +6,10 @@
 
 use crate::format::{FRONT_LEN, Format};
 use crate::hint::is_known;
-use crate::peers::peer_of_server;
 use byteorder::{BigEndian, ByteOrder};
 use rs_host::{FileFault, found_at, open, open_file};
 use rs_inventory::{
-    Compression, Inventory, InventoryFault, Outline, Peer, UnreadMessages, outline_of,
+    Compression, Inventory, InventoryFault, Outline, PeerId, UnreadMessages, outline_of,
 };
 use rs_mrt::{Bounds, Cut, HEADER_LEN, RecordReader, Tail};
 use rs_setup::Setup;
@@ -71,7 +70,7 @@ pub fn read_contents<'a, R: AllocGlobal + Files>(
     path: &'a str,
     bounds: Bounds,
 ) -> Result<Contents<'a>, FileFault> {
-    contents_at(rt, path, bounds, peer_of_server(setup), None)
+    contents_at(rt, path, bounds, setup.plan.local().peer_id(), None)
 }
 
 /// What the file at a path holds within bounds, by its outline. If the outline isn't known, the file is read for it. It
@@ -80,7 +79,7 @@ pub(crate) fn contents_at<'a, R: AllocGlobal + Files>(
     rt: &R,
     path: &'a str,
     bounds: Bounds,
-    server: Peer,
+    server: PeerId,
     known: Option<Outline>,
 ) -> Result<Contents<'a>, FileFault> {
     let front = front_at(rt, path)?;
@@ -116,7 +115,7 @@ fn outline_at<R: AllocGlobal + Files>(
     rt: &R,
     path: &str,
     until: Option<u32>,
-    server: Peer,
+    server: PeerId,
 ) -> Result<Outline, FileFault> {
     let records = RecordReader::up_to(open_file(rt, path)?, until);
     match outline_of(rt.alloc(), records, server) {

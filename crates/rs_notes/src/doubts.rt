@@ -15,7 +15,6 @@ use crate::note::{
     no_effect_text, unread_text, up_to_text,
 };
 use crate::notes::Notes;
-use crate::peers::peer_of;
 use crate::subject::{Close, Ending, Subject};
 use rs_choice::PeerSpec;
 use rs_inventory::Unread;
@@ -102,7 +101,7 @@ impl<'a> Doubts<'a> {
         if ending.close != Close::AtEnd {
             return;
         }
-        let Some(records) = contents.held.peers().get(&peer_of(spec)) else {
+        let Some(records) = contents.held.peers().get(&spec.peer_id()) else {
             return;
         };
         let (name, course) = (&spec.name, records.course());
@@ -115,7 +114,7 @@ impl<'a> Doubts<'a> {
         if let Some(time) = course.again {
             self.again.add(name, again_told(alloc, name, time));
         }
-        if let Some(lost) = lost_of(subject.setup, &contents.held, records, peer_of(spec)) {
+        if let Some(lost) = lost_of(subject.setup, &contents.held, records, spec.peer_id()) {
             self.lost.add(name, lost_told(alloc, name, lost));
         }
     }

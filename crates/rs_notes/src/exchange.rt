@@ -6,8 +6,7 @@
 use crate::contents::{Contents, contents_of};
 use crate::note::{back_line, back_lines, server_line, subnet_line};
 use crate::notes::Notes;
-use crate::peers::peer_of_server;
-use rs_inventory::Peer;
+use rs_inventory::PeerId;
 use rs_setup::Setup;
 use rs_types::Prefix;
 use std::alloc::Global;
@@ -20,7 +19,7 @@ pub(crate) fn add_exchange(alloc: Global, setup: &Setup, all: &[Contents<'_>], n
             notes.add(subnet_line(alloc, subnet));
         }
     }
-    let server = peer_of_server(setup);
+    let server = setup.plan.local().peer_id();
     if let Some((path, recorder)) = first_recorder(all) {
         if is_unnamed(setup, all) {
             notes.add(server_line(alloc, server, path, recorder));
@@ -79,7 +78,7 @@ fn is_unnamed(setup: &Setup, all: &[Contents<'_>]) -> bool {
 }
 
 // The first file in which a recorder is named, and the first one there.
-fn first_recorder<'a>(all: &[Contents<'a>]) -> Option<(&'a str, Peer)> {
+fn first_recorder<'a>(all: &[Contents<'a>]) -> Option<(&'a str, PeerId)> {
     for contents in all {
         if let Some(recorder) = contents.held.recorder() {
             return Some((contents.path, recorder));

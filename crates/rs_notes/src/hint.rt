@@ -8,7 +8,7 @@ ghost use Rattle.std.specs.Prelude.{◌≡◌};
 ghost use Rattle.rs_notes.specs.Hint.{has_bodies, hint_of, is_all, is_known, only_kind, records_of};
 
 use crate::format::Format;
-use rs_inventory::{Inventory, Kind, Peer};
+use rs_inventory::{Inventory, Kind, PeerId};
 
 /// What is noted of a recorded file.
 #[derive(Clone, Copy, Debug, PartialEq, Eq)]
@@ -32,7 +32,7 @@ const FIELDS_LEN: u64 = 16;
 
 /// What is noted of a peer's recorded file that gave no change but the close. `front` has the first `FRONT_LEN`
 /// octets of the file, or all if there are fewer. The answer is none if nothing looks wrong.
-pub fn hint_on(held: &Inventory, front: &[u8], peer: Peer) -> Option<Hint>
+pub fn hint_on(held: &Inventory, front: &[u8], peer: PeerId) -> Option<Hint>
     ensures { result ≡ hint_of held.now front.now peer }
 {
     if let Some(compression) = held.compression() {
@@ -51,7 +51,7 @@ pub fn hint_on(held: &Inventory, front: &[u8], peer: Peer) -> Option<Hint>
 }
 
 // How many of the records are the peer's.
-fn records_of(held: &Inventory, peer: Peer) -> u64
+fn records_of(held: &Inventory, peer: PeerId) -> u64
     ensures { result ≡ records_of held.now peer }
 {
     match held.peers().get(&peer) {

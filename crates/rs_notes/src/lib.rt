@@ -36,5 +36,4 @@ pub use import_notes::{BEFORE_IMPORT, add_filtered};
 pub use note::{cut_line, note_line};
 pub use notes::{Notes, notes_of, notes_on, print_texts};
 pub use outlines::Outlines;
-pub use peers::peer_of;
 pub use subject::{Close, Ending, Subject, Telling};

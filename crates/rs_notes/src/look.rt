@@ -6,10 +6,9 @@
 use crate::contents::{Contents, read_contents};
 use crate::hint::{Hint, hint_on};
 use crate::near::{Near, near_of};
-use crate::peers::peer_of;
 use crate::subject::Subject;
 use rs_choice::PeerSpec;
-use rs_inventory::{Inventory, Peer};
+use rs_inventory::{Inventory, PeerId};
 use rs_mrt::Bounds;
 use std::fs::Files;
 
@@ -35,7 +34,7 @@ pub(crate) fn look_at<R: AllocGlobal + Files>(
     spec: &PeerSpec,
     contents: &Contents<'_>,
 ) -> Look {
-    let peer = peer_of(spec);
+    let peer = spec.peer_id();
     if contents.is_empty() {
         return Look::Empty;
     }
@@ -55,7 +54,7 @@ pub(crate) fn look_at<R: AllocGlobal + Files>(
 }
 
 // What a file shows that holds this.
-fn look_into(subject: Subject<'_>, contents: &Contents<'_>, peer: Peer) -> Look {
+fn look_into(subject: Subject<'_>, contents: &Contents<'_>, peer: PeerId) -> Look {
     let held = &contents.held;
     match hint_on(held, &contents.front, peer) {
         Some(hint) => Look::Wrong(hint, near_of(subject.setup, held, peer)),
@@ -64,7 +63,7 @@ fn look_into(subject: Subject<'_>, contents: &Contents<'_>, peer: Peer) -> Look 
 }
 
 // Whether some record is the peer's.
-fn has_records(held: &Inventory, peer: Peer) -> bool {
+fn has_records(held: &Inventory, peer: PeerId) -> bool {
     match held.peers().get(&peer) {
         Some(records) => records.records() > 0,
         None => false,
@@ -72,7 +71,7 @@ fn has_records(held: &Inventory, peer: Peer) -> bool {
 }
 
 // The time of the peer's first record, if some record is the peer's.
-fn first_of(held: &Inventory, peer: Peer) -> Option<u32> {
+fn first_of(held: &Inventory, peer: PeerId) -> Option<u32> {
     let records = held.peers().get(&peer)?;
     if records.records() == 0 {
         return None;

@@ -4,8 +4,8 @@
 //! Our choices: the AS number tells whose loss it is, if no other peer of the exchange has it. Of several such losses the
 //! first counts, and only if by the peer's own records its session was up.
 
-use crate::peers::{is_alone, is_configured, peer_of_server};
-use rs_inventory::{Inventory, Peer, PeerRecords};
+use crate::peers::{is_alone, is_configured};
+use rs_inventory::{Inventory, PeerId, PeerRecords};
 use rs_setup::Setup;
 
 // The address of no peer.
@@ -26,7 +26,7 @@ pub(crate) fn lost_of(
     setup: &Setup,
     held: &Inventory,
     records: &PeerRecords,
-    peer: Peer,
+    peer: PeerId,
 ) -> Option<Lost> {
     if !is_alone(setup, peer.asn) {
         return None;
@@ -38,7 +38,7 @@ pub(crate) fn lost_of(
             is_swapped: false,
         });
     }
-    let server = peer_of_server(setup).address;
+    let server = setup.plan.local().peer_id().address;
     Some(Lost {
         time: loss_at(setup, held, records, peer.asn, server)?,
         is_swapped: true,
@@ -53,7 +53,7 @@ fn loss_at(
     asn: u32,
     address: u32,
 ) -> Option<u32> {
-    let nobody = Peer { address, asn };
+    let nobody = PeerId { address, asn };
     if is_configured(setup, nobody) {
         return None;
     }

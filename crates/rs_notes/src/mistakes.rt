@@ -9,10 +9,9 @@ use crate::hint::Hint;
 use crate::near::Near;
 use crate::note::{advised_line, cut_line, cut_lines, hint_text, near_text, note_line};
 use crate::notes::Notes;
-use crate::peers::peer_of;
 use crate::subject::{Close, Ending, Subject, Telling};
 use rs_choice::PeerSpec;
-use rs_inventory::Peer;
+use rs_inventory::PeerId;
 use rs_mrt::{Cut, Tail};
 use std::alloc::{AllocError, Global};
 
@@ -47,7 +46,7 @@ impl<'a> Mistakes<'a> {
         hint: Hint,
         near: Option<Near>,
     ) {
-        let told = told_by(alloc, &spec.name, path, peer_of(spec), hint, near);
+        let told = told_by(alloc, &spec.name, path, spec.peer_id(), hint, near);
         match hint {
             Hint::NotMrt(_) => self.formats.add(&spec.name, told),
             Hint::NoRecord { .. } => self.strangers.add(&spec.name, told),
@@ -102,7 +101,7 @@ fn told_by(
     alloc: Global,
     name: &str,
     path: &str,
-    peer: Peer,
+    peer: PeerId,
     hint: Hint,
     near: Option<Near>,
 ) -> Result<Told, AllocError> {

@@ -3,15 +3,15 @@
 //!
 //! Our choice: the file must have records of exactly one such peer, and the exchange none of that address and AS number.
 
-use crate::peers::{is_configured, peer_of_server};
-use rs_inventory::{Inventory, Peer};
+use crate::peers::is_configured;
+use rs_inventory::{Inventory, PeerId};
 use rs_setup::Setup;
 
 /// A peer of a recorded file that is probably meant.
 #[derive(Clone, Copy, Debug, PartialEq, Eq)]
 pub(crate) struct Near {
     /// The peer as the records name it.
-    pub peer: Peer,
+    pub peer: PeerId,
     /// How many records the file has of it.
     pub records: u64,
     /// Whether it is its address that differs; else it is its AS number.
@@ -19,7 +19,7 @@ pub(crate) struct Near {
 }
 
 /// Which peer of a file is probably meant by a peer of which the file has no record; none if none is, or several are.
-pub(crate) fn near_of(setup: &Setup, held: &Inventory, wanted: Peer) -> Option<Near> {
+pub(crate) fn near_of(setup: &Setup, held: &Inventory, wanted: PeerId) -> Option<Near> {
     let mut found = None;
     for (peer, records) in held.peers() {
         let peer = *peer;
@@ -39,11 +39,13 @@ pub(crate) fn near_of(setup: &Setup, held: &Inventory, wanted: Peer) -> Option<N
 }
 
 // Whether exactly one of address and AS number is equal.
-fn is_near(peer: Peer, wanted: Peer) -> bool {
+fn is_near(peer: PeerId, wanted: PeerId) -> bool {
     (peer.asn == wanted.asn) != (peer.address == wanted.address)
 }
 
 // Whether a peer can't be meant: the exchange has it, its records have no address, or that of the server.
-fn is_other(setup: &Setup, peer: Peer) -> bool {
-    peer.address == 0 || peer.address == peer_of_server(setup).address || is_configured(setup, peer)
+fn is_other(setup: &Setup, peer: PeerId) -> bool {
+    peer.address == 0
+        || peer.address == setup.plan.local().peer_id().address
+        || is_configured(setup, peer)
 }

@@ -10,7 +10,7 @@ use crate::hint::Hint;
 use crate::lost::Lost;
 use crate::near::Near;
 use rs_host::{Utc, on_one_line};
-use rs_inventory::{Back, Kind, Peer, Unread};
+use rs_inventory::{Back, Kind, PeerId, Unread};
 use rs_mrt::{Cut, Tail};
 use rs_types::Prefix;
 use std::alloc::{AllocError, Global};
@@ -22,7 +22,7 @@ pub fn note_line(
     alloc: Global,
     name: &str,
     path: &str,
-    peer: Peer,
+    peer: PeerId,
     hint: Hint,
 ) -> Result<String, AllocError>
     ensures { IfOk result (λ line. string_bytes line ≡ note_of name.now path.now peer hint) }
@@ -86,7 +86,7 @@ fn loss_text(tail: Tail) -> &'static str
 pub(crate) fn hint_text(
     alloc: Global,
     path: &str,
-    peer: Peer,
+    peer: PeerId,
     hint: Hint,
 ) -> Result<String, AllocError>
     ensures { IfOk result (λ text. string_bytes text ≡ text_of path.now peer hint) }
@@ -118,7 +118,7 @@ fn others_text(alloc: Global, path: &str, whose: &str, count: &str) -> Result<St
 }
 
 // Whose records are looked for.
-fn whose_text(alloc: Global, peer: Peer) -> Result<String, AllocError>
+fn whose_text(alloc: Global, peer: PeerId) -> Result<String, AllocError>
     ensures { IfOk result (λ text. string_bytes text ≡ whose_text peer) }
 {
     let (address, asn) = (address_of(peer.address), peer.asn);
@@ -284,9 +284,9 @@ pub(crate) fn at_text(alloc: Global, time: u32) -> Result<String, AllocError> {
 /// file at a path names another one.
 pub(crate) fn server_line(
     alloc: Global,
-    server: Peer,
+    server: PeerId,
     path: &str,
-    recorder: Peer,
+    recorder: PeerId,
 ) -> Result<String, AllocError> {
     let (server, recorder) = (whose_text(alloc, server)?, whose_text(alloc, recorder)?);
     let path = on_one_line(alloc, path)?;

@@ -12,7 +12,6 @@ use crate::group::Group;
 use crate::import_notes::add_empty_lists;
 use crate::look::{Look, look_at};
 use crate::mistakes::{Mistakes, may_be_cut};
-use crate::peers::peer_of;
 use crate::subject::{Close, Ending, Subject, Telling};
 use rs_choice::PeerSpec;
 use rs_inventory::Inventory;
@@ -198,7 +197,7 @@ impl<'a> ByPeer<'a> {
         if subject.telling == Telling::Mistakes {
             return;
         }
-        let unread = contents.unread.of(peer_of(spec));
+        let unread = contents.unread.of(spec.peer_id());
         self.doubts.take_unread(alloc, subject, spec, unread);
         self.doubts
             .take_sessions(alloc, subject, spec, contents, ending);

@@ -4,8 +4,7 @@
 //! that wasn't read to its end isn't known, nor is one for which memory was refused. Such a file is read once more.
 
 use crate::contents::{Contents, contents_at, contents_of};
-use crate::peers::peer_of_server;
-use rs_inventory::{Outline, OutlineSlot, Peer};
+use rs_inventory::{Outline, OutlineSlot, PeerId};
 use rs_mrt::{Bounds, Tail};
 use rs_setup::Setup;
 use std::alloc::Global;
@@ -16,7 +15,7 @@ use std::fs::Files;
 pub struct Outlines {
     bounds: Bounds,
     // The server of the exchange; none if these are outlines of no file.
-    server: Option<Peer>,
+    server: Option<PeerId>,
     // One for each path of the exchange, in their order; none for a path that stands there before.
     files: Vec<Option<OutlineSlot>>,
 }
@@ -42,7 +41,7 @@ impl Outlines {
     pub fn within(alloc: Global, setup: &Setup, bounds: Bounds) -> Outlines {
         let mut outlines = Outlines {
             bounds,
-            server: Some(peer_of_server(setup)),
+            server: Some(setup.plan.local().peer_id()),
             files: Vec::new(alloc),
         };
         for (peer, path) in setup.files.iter().enumerate() {

@@ -1,30 +1,12 @@
-//! The peers of an exchange and its server, as records name them.
+//! Which peers an exchange has, as records name them.
 
-use rs_choice::PeerSpec;
-use rs_inventory::Peer;
+use rs_inventory::PeerId;
 use rs_setup::Setup;
 
-/// A peer as records name it.
-pub fn peer_of(spec: &PeerSpec) -> Peer {
-    Peer {
-        address: spec.address,
-        asn: spec.asn,
-    }
-}
-
-/// The server as records name it.
-pub(crate) fn peer_of_server(setup: &Setup) -> Peer {
-    let local = setup.plan.local();
-    Peer {
-        address: local.address,
-        asn: local.asn,
-    }
-}
-
 /// Whether the exchange has a peer that records name so.
-pub(crate) fn is_configured(setup: &Setup, peer: Peer) -> bool {
+pub(crate) fn is_configured(setup: &Setup, peer: PeerId) -> bool {
     for place in 0..setup.plan.count() {
-        if peer_of(setup.plan.peer(place)) == peer {
+        if setup.plan.peer(place).peer_id() == peer {
             return true;
         }
     }

@@ -1,7 +1,7 @@
 -- How the recorded files of the peers are opened: to be read within bounds, with the losses of each peer (our choice).
 use Rattle.std.specs.Prelude.{◌≡◌, ℕ, ◌==◌, false, List, Some, count_by, slice_get}
 use Rattle.std.specs.Option.{option_map_or}
-use Rattle.rs_choice.specs.Plan.{Peer, Plan}
+use Rattle.rs_choice.specs.Plan.{Peer, Plan, id_of}
 use Rattle.rs_inventory.specs.OutlinedRecords.{Outlining}
 use Rattle.rs_losses.specs.WithLosses.{Inferring, room_by, unbegun}
 use Rattle.rs_losses.specs.declared.losses.Sought.{Sought}
@@ -18,14 +18,13 @@ count_of_asn peers asn = count_by (λ peer. peer.asn == asn) peers
 -- A peer, as its losses are looked for. No other peer has its AS number if only one peer has it.
 abbrev pub sought_among : List Peer → Peer → Sought
 sought_among peers peer = record {
-  address = peer.address;
-  asn = peer.asn;
+  peer = id_of peer;
   alone = count_of_asn peers peer.asn == 1;
 }
 
 -- what stands for the peer of a number that no peer has
 abbrev pub nobody : Sought
-nobody = record { address = 0; asn = 0; alone = false }
+nobody = record { peer = record { address = 0; asn = 0 }; alone = false }
 
 -- the peer of a number, among the peers of a plan
 abbrev pub sought_of : Plan → ℕ → Sought

@@ -6,7 +6,7 @@ ghost use Rattle.rs_opening.specs.Opening.{AreReadSo, IsReadSo, room_of};
 use crate::sought_peer::sought;
 use rs_choice::Exchange;
 use rs_host::{FileFault, Recorded, Unready, first_unreadable, in_pieces, open};
-use rs_inventory::{OutlineSlot, Outlined, Peer};
+use rs_inventory::{OutlineSlot, Outlined, PeerId};
 use rs_losses::{Sought, WithLosses};
 use rs_mrt::{FileReading, Lenient, RecordReader};
 use rs_setup::Setup;
@@ -70,7 +70,7 @@ fn open_each<'a, R: AllocGlobal + Files, F: Read + Drop, O: Fn(R::File) -> F>(
         // Each peer before this one has its file open, so their number is its own.
         let who = sought(plan, files.len());
         let slot = slot_of(slots, files.len());
-        let records = replayed(alloc, file, reading, who, server_of(plan), slot);
+        let records = replayed(alloc, file, reading, who, plan.local().peer_id(), slot);
         let Ok(()) = files.push(records) else {
             return Err(Unready::Memory);
         };
@@ -96,7 +96,7 @@ fn replayed<'a, F: Read + Drop>(
     file: Recorded<F>,
     reading: FileReading,
     who: Sought,
-    server: Peer,
+    server: PeerId,
     slot: Option<&'a OutlineSlot>,
 ) -> Replayed<'a, F>
     requires { file.failures < u64.MAX }
@@ -115,13 +115,4 @@ fn replayed<'a, F: Read + Drop>(
 // The place for the outline of the file of the peer of a number, if there is one.
 fn slot_of<'a>(slots: &'a [Option<OutlineSlot>], number: usize) -> Option<&'a OutlineSlot> {
     slots.get(number)?.as_ref()
-}
-
-// The server as records name it.
-fn server_of(plan: &Exchange) -> Peer {
-    let local = plan.local();
-    Peer {
-        address: local.address,
-        asn: local.asn,
-    }
 }

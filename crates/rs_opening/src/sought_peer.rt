@@ -11,11 +11,8 @@ pub fn sought(plan: &Exchange, number: usize) -> Sought
     requires { number < length plan.now.peers }
     ensures { result ≡ sought_of plan.now number }
 {
-    let peer = plan.peer(number);
-    let (address, asn) = (peer.address, peer.asn);
     Sought {
-        address,
-        asn,
+        peer: plan.peer(number).peer_id(),
         alone: has_asn_alone(plan, number),
     }
 }

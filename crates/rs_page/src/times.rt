@@ -8,13 +8,13 @@ use crate::spans::{Ends, Span, spans_of};
 use rs_glass::{Loss, loss_of};
 use rs_glass_shell::Unanswered;
 use rs_host::{Unready, open_file};
-use rs_inventory::{Peer, PeerRecords};
+use rs_inventory::{PeerId, PeerRecords};
 use rs_losses::{Sought, WithLosses};
 use rs_mrt::{Bounds, Lenient, Losses, RecordReader, Source};
-use rs_notes::{Contents, contents_of, peer_of};
+use rs_notes::{Contents, contents_of};
 use rs_opening::sought;
 use rs_query::TablesQuery;
-use rs_session::{Body, PeerId, Reason, Session, Word};
+use rs_session::{Body, Reason, Session, Word};
 use rs_setup::Setup;
 use rs_update::Errors;
 use std::alloc::{AllocError, Global};
@@ -58,7 +58,7 @@ pub(crate) fn times_of<R: AllocGlobal + Files>(
     };
     for peer in 0..setup.plan.count().min(setup.files.len()) {
         let path = setup.files[peer].as_str();
-        let of = peer_of(setup.plan.peer(peer));
+        let of = setup.plan.peer(peer).peer_id();
         let one = match records_of(contents, path, of) {
             Some(records) => {
                 let manner = Manner {
@@ -96,7 +96,7 @@ fn silent(alloc: Global) -> PeerTimes {
 }
 
 // The records of a peer in the file at a path.
-fn records_of<'b>(all: &'b [Contents<'_>], path: &str, peer: Peer) -> Option<&'b PeerRecords> {
+fn records_of<'b>(all: &'b [Contents<'_>], path: &str, peer: PeerId) -> Option<&'b PeerRecords> {
     contents_of(all, path)?.held.peers().get(&peer)
 }
 
@@ -108,7 +108,7 @@ fn range_of(setup: &Setup, contents: &[Contents<'_>]) -> (Option<u32>, Option<u3
         last = later(last, one.held.last());
     }
     for peer in 0..setup.plan.count().min(setup.files.len()) {
-        let of = peer_of(setup.plan.peer(peer));
+        let of = setup.plan.peer(peer).peer_id();
         if let Some(records) = records_of(contents, &setup.files[peer], of) {
             first = earlier(first, records.course().first);
         }
@@ -147,14 +147,10 @@ fn heard<R: AllocGlobal + Files>(
         Ok(file) => file,
         Err(fault) => return Err(Unanswered::from(Unready::by_file(alloc, fault, path))),
     };
-    let id = PeerId {
-        address: manner.who.address,
-        asn: manner.who.asn,
-    };
     let reader = RecordReader::up_to(file, manner.bounds.until);
     let whole = Lenient::new(reader, manner.bounds.tail);
     let source = WithLosses::new(whole, manner.losses, manner.who);
-    let session = Session::over_by(alloc, source, id, manner.errors);
+    let session = Session::over_by(alloc, source, manner.who.peer, manner.errors);
     let mut one = silent(alloc);
     let ends = hear(alloc, session, &mut one, changes)?;
     if let Some((_, Reason::Read)) = ends.close {

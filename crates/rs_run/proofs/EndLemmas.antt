@@ -2,8 +2,7 @@
 use Rattle.std.proofs.Common.{◌≡◌, ◌∙◌, sym, ap, refl, ℕ, suc, arith, Bool, true, false, List, [], ◌∷◌, ◌++◌, Option, Some, length, map}
 use Rattle.std.specs.Prelude.{◌||◌, slice_get}
 use Rattle.std.specs.List.{zip}
-use Rattle.rs_choice.specs.Plan.{Peer, Plan}
-use Rattle.rs_serve.specs.Identity.{id_of}
+use Rattle.rs_choice.specs.Plan.{Peer, Plan, id_of}
 use Rattle.rs_serve.specs.Served.{ServedContent, IsEndOf, IsServedBy}
 use Rattle.rs_serve.specs.declared.ended.PeerEnd.{PeerEnd}
 use Rattle.rs_mrt.specs.Reader.{ReadEnd}
@@ -14,7 +13,7 @@ use Rattle.rs_session.specs.Change.{Change, ChangeBody, Announced, Withdrawn, Lo
 use Rattle.rs_session.specs.FileChanges.{changes_in_by, passed_in_by, close_at}
 use Rattle.rs_session.specs.Laws.{ClosesLast, ClosesOnce, has_close}
 use Rattle.rs_session.specs.Told.{ClosesFor}
-use Rattle.rs_session.specs.declared.peer.PeerId.{PeerId}
+use Rattle.rs_types.specs.declared.peer_id.PeerId.{PeerId}
 use Rattle.rs_change.specs.declared.word.Reason.{Reason}
 use Rattle.rs_update.specs.declared.errors.Errors.{Errors}
 use Rattle.rs_run.specs.Recorded.{OverFiles, tables_of_files}

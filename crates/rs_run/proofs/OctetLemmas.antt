@@ -2,19 +2,18 @@
 use mathlib.Core.List.{map-map}
 use Rattle.std.proofs.Common.{◌≡◌, ◌∙◌, sym, ap, subst, ℕ, Bor, List, [], ◌++◌, Some, length, map}
 use Rattle.std.specs.Prelude.{slice_get}
-use Rattle.rs_choice.specs.Plan.{Peer, Plan}
+use Rattle.rs_choice.specs.Plan.{Peer, Plan, id_of}
 use Rattle.rs_mrt.specs.MemoryReading.{MemoryReading, Comes}
 use Rattle.rs_outlet.specs.Outlet.{Grows, KeptDump}
 use Rattle.rs_patience.proofs.PlaceLemmas.{get-map, map-get}
 use Rattle.rs_serve.proofs.AtHandLemmas.{GivesJust, SaysSame, given-whole, same-zipped}
 use Rattle.rs_serve.specs.AtHand.{whole_of}
-use Rattle.rs_serve.specs.Identity.{id_of}
 use Rattle.rs_serve.specs.Served.{tables_of}
 use Rattle.rs_serve.specs.declared.ended.PeerEnd.{PeerEnd}
 use Rattle.rs_session.specs.Change.{Change}
 use Rattle.rs_session.specs.FileChanges.{changes_in_by, passed_in_by}
 use Rattle.rs_session.specs.Given.{AreGiven}
-use Rattle.rs_session.specs.declared.peer.PeerId.{PeerId}
+use Rattle.rs_types.specs.declared.peer_id.PeerId.{PeerId}
 use Rattle.rs_table.specs.Content.{TablesContent}
 use Rattle.rs_update.specs.declared.errors.Errors.{Errors}
 use Rattle.rs_run.specs.Recorded.{tables_of_files}

@@ -8,7 +8,7 @@ use Rattle.std.proofs.lemmas.Option.{slice_get_within}
 use Rattle.rs_change.specs.Change.{is_read}
 use Rattle.rs_change.specs.declared.word.Reason.{Reason}
 use Rattle.rs_change.specs.declared.word.Reason.TheVariants as reasons
-use Rattle.rs_choice.specs.Plan.{Peer, Plan}
+use Rattle.rs_choice.specs.Plan.{Peer, Plan, id_of}
 use Rattle.rs_losses.specs.Losses.{with_losses}
 use Rattle.rs_losses.specs.WithLosses.{ComesFirst, end_within as end_below, within as below}
 use Rattle.rs_losses.specs.WithLosses.{shown_by}
@@ -25,7 +25,6 @@ use Rattle.rs_mrt.specs.declared.fault.SourceFault.{SourceFault}
 use Rattle.rs_mrt.specs.declared.fault.SourceFault.TheVariants.{Read}
 use Rattle.rs_mrt.specs.declared.losses.Losses.{Losses}
 use Rattle.rs_mrt.specs.declared.losses.Losses.TheVariants.{Recorded, Inferred}
-use Rattle.rs_serve.specs.Identity.{id_of}
 use Rattle.rs_serve.specs.Served.{IsEndOfTold, IsServedAs, ServedContent, tables_of}
 use Rattle.rs_serve.specs.declared.ended.PeerEnd.{PeerEnd}
 use Rattle.rs_session.proofs.FileChangesLemmas.{changes_of-ends, changes_of-gives, changes_of-nil, changes_of-passes}
@@ -36,7 +35,7 @@ use Rattle.rs_session.specs.FileChanges.{changes_of, close_at, passed_of}
 use Rattle.rs_session.specs.Given.{AreEach}
 use Rattle.rs_session.specs.Laws.{ClosesLast, ClosesOnce}
 use Rattle.rs_session.specs.Told.{ClosesFor, Tells, Told}
-use Rattle.rs_session.specs.declared.peer.PeerId.{PeerId}
+use Rattle.rs_types.specs.declared.peer_id.PeerId.{PeerId}
 use Rattle.rs_table.specs.Content.{TablesContent}
 use Rattle.rs_update.specs.declared.errors.Errors.{Errors}
 use Rattle.rs_patience.proofs.PlaceLemmas.{get-map, some-at}

@@ -4,8 +4,7 @@ use Rattle.std.specs.Io.KnownBytes.{Appends}
 use Rattle.std.specs.Result.{IsErrAnd}
 use Rattle.std.specs.List.{zip}
 use Rattle.std.proofs.lemmas.List.{length-map}
-use Rattle.rs_choice.specs.Plan.{Plan}
-use Rattle.rs_serve.specs.Identity.{id_of}
+use Rattle.rs_choice.specs.Plan.{Plan, id_of}
 use Rattle.rs_serve.specs.declared.ended.PeerEnd.{PeerEnd}
 use Rattle.rs_keep.specs.Kept.{GrowsByBeginning, IsDumpFailure, IsStop, dumps_of}
 use Rattle.rs_mrt.specs.Reader.{ReadEnd}

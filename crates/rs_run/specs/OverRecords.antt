@@ -2,7 +2,7 @@
 -- each peer. The records of a file are from a standard (RFC 6396, section 2); which of them are read is our choice.
 use Rattle.std.specs.Prelude.{◌≡◌, ℕ, List, length, map}
 use Rattle.std.specs.List.{zip}
-use Rattle.rs_choice.specs.Plan.{Peer, Plan}
+use Rattle.rs_choice.specs.Plan.{Peer, Plan, id_of}
 use Rattle.rs_keep.specs.Kept.{dumps_of}
 use Rattle.rs_losses.specs.Losses.{with_losses}
 use Rattle.rs_losses.specs.declared.losses.Sought.{Sought}
@@ -13,12 +13,11 @@ use Rattle.rs_mrt.specs.Source.{source_end}
 use Rattle.rs_mrt.specs.declared.bounds.FileReading.{FileReading}
 use Rattle.rs_mrt.specs.declared.losses.Losses.{Losses}
 use Rattle.rs_mrt.specs.declared.losses.Losses.TheVariants.{Recorded, Inferred}
-use Rattle.rs_serve.specs.Identity.{id_of}
 use Rattle.rs_serve.specs.Served.{ServedContent, tables_of}
 use Rattle.rs_serve.specs.declared.ended.PeerEnd.{PeerEnd}
 use Rattle.rs_session.specs.FileChanges.{changes_of, passed_of}
 use Rattle.rs_session.specs.Told.{Told}
-use Rattle.rs_session.specs.declared.peer.PeerId.{PeerId}
+use Rattle.rs_types.specs.declared.peer_id.PeerId.{PeerId}
 use Rattle.rs_update.specs.declared.errors.Errors.{Errors}
 use Rattle.rs_run.specs.Report.{report_of}
 use Rattle.rs_run.specs.SessionEnd.{reason_in}

@@ -1,8 +1,7 @@
 -- The tables that recorded files give an exchange: the routes that its peers have left, of which the tables of its
 -- clients are chosen (RFC 4271, section 9.1).
 use Rattle.std.specs.Prelude.{ℕ, List, Option, map}
-use Rattle.rs_choice.specs.Plan.{Plan}
-use Rattle.rs_serve.specs.Identity.{id_of}
+use Rattle.rs_choice.specs.Plan.{Plan, id_of}
 use Rattle.rs_serve.specs.Served.{IsServedOver, ServedContent, changes_by_peer, tables_of}
 use Rattle.rs_mrt.specs.Reader.{ReadEnd}
 use Rattle.rs_mrt.specs.Record.{MrtRecord}

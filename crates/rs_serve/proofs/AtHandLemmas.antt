@@ -5,7 +5,7 @@ use Rattle.std.specs.List.{zip}
 use Rattle.rs_mrt.specs.Reader.{ReadEnd, FileEnds}
 use Rattle.rs_session.specs.FileChanges.{changes_in_by, passed_in_by}
 use Rattle.rs_session.specs.Given.{IsGiven}
-use Rattle.rs_session.specs.declared.peer.PeerId.{PeerId}
+use Rattle.rs_types.specs.declared.peer_id.PeerId.{PeerId}
 use Rattle.rs_update.specs.declared.errors.Errors.{Errors}
 use Rattle.rs_serve.proofs.FileLemmas.{front-says}
 

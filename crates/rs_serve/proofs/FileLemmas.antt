@@ -11,7 +11,7 @@ use Rattle.rs_mrt.specs.declared.fault.SourceFault.{SourceFault}
 use Rattle.rs_session.specs.Effect.{effect_of}
 use Rattle.rs_session.specs.FileChanges.{ends, changes_of, passed_of, changes_in_by, passed_in_by}
 use Rattle.rs_session.specs.Given.{has_end}
-use Rattle.rs_session.specs.declared.peer.PeerId.{PeerId}
+use Rattle.rs_types.specs.declared.peer_id.PeerId.{PeerId}
 use Rattle.rs_update.specs.declared.errors.Errors.{Errors}
 use Rattle.rs_mrt.specs.Record.{MrtRecord, records_within, records_of, end_of, has_record, front_record, after_record, length_field}
 

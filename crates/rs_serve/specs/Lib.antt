@@ -4,7 +4,6 @@ pub mod Held  -- one shard
 pub mod Crew  -- all of them
 pub mod Laws  -- what their tables come to
 -- Before the threads:
-pub mod Identity  -- who a peer is
 pub mod AtHand  -- files that are at hand
 pub mod Lines  -- rings that are made
 -- How a run ends:

@@ -1,6 +1,6 @@
 -- Rings before a run on threads begins.
 use Rattle.std.specs.Prelude.{◌≡◌, ◌≤◌, ◌^◌, ◌++◌, ◌∷◌, ℕ, [], List, All, map, length}
-use Rattle.rs_choice.specs.Plan.{Peer, Plan}
+use Rattle.rs_choice.specs.Plan.{Peer, Plan, id_of}
 use Rattle.rs_ring.specs.Ends.{Receiving, Sending}
 use Rattle.rs_router.specs.ShardParts.{IsShardCount}
 use Rattle.rs_router.specs.declared.routed.Routed.{Routed}
@@ -9,7 +9,6 @@ use Rattle.rs_serve.specs.Crew.{IsReady}
 use Rattle.rs_serve.specs.Laws.{IsOfPlan}
 use Rattle.rs_serve.specs.declared.shard_crew.ShardJob.{ShardJob}
 use Rattle.rs_worker.specs.declared.crew.Job.{Job}
-use Rattle.rs_serve.specs.Identity.{id_of}
 
 -- ---- the rings between peers and router
 

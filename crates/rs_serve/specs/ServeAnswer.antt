@@ -1,6 +1,6 @@
 -- The meaning of each answer of a run on threads. Nothing here is from a standard: all of it is our choice.
 use Rattle.std.specs.Prelude.{◌≡◌, ◌<◌, ℕ, true, false, List, Option, Result, Ok, Err, length, map}
-use Rattle.rs_choice.specs.Plan.{Plan}
+use Rattle.rs_choice.specs.Plan.{Plan, id_of}
 use Rattle.rs_mrt.specs.Reader.{ReadEnd}
 use Rattle.rs_ring.specs.Items.{is_capacity}
 use Rattle.rs_mrt.specs.Record.{MrtRecord}
@@ -8,7 +8,6 @@ use Rattle.rs_session.specs.Given.{MayFailAt}
 use Rattle.rs_session.specs.Stage.{Comes}
 use Rattle.rs_session.specs.Told.{MayFailToTellAt}
 use Rattle.rs_update.specs.declared.errors.Errors.{Errors}
-use Rattle.rs_serve.specs.Identity.{id_of}
 use Rattle.rs_serve.specs.Served.{IsServedBy, IsServedOver, ServedContent, is_shard_count}
 use Rattle.rs_serve.specs.declared.fault.FloorRefused.{FloorRefused}
 use Rattle.rs_serve.specs.declared.fault.FloorRefused.TheVariants.{Memory, Unsettled, Capacity, Read, Shards}

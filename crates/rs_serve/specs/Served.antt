@@ -2,21 +2,20 @@
 use Rattle.std.specs.Prelude.{◌≡◌, ◌&&◌, ℕ, Bool, nat_le, List, [], ◌∷◌, ◌++◌, map, length, slice_get, Option, Some, refl}
 use Rattle.std.specs.Coded.{Coded, code_by, coded×, coded_ℕ, coded_list}
 use Rattle.std.specs.List.{zip}
-use Rattle.rs_choice.specs.Plan.{Peer, Plan}
+use Rattle.rs_choice.specs.Plan.{Peer, Plan, id_of}
 use Rattle.rs_session.specs.Change.{Change}
 use Rattle.rs_session.specs.FileChanges.{changes_in_by, passed_in_by, close_at}
 use Rattle.rs_session.specs.Given.{OverGivenFiles}
 use Rattle.rs_session.specs.Stage.{Comes}
 use Rattle.rs_session.specs.Told.{ClosesFor, OverTold, Told}
 use Rattle.rs_change.specs.contracts.word.Reason as reason
-use Rattle.rs_session.specs.declared.peer.PeerId.{PeerId}
+use Rattle.rs_types.specs.declared.peer_id.PeerId.{PeerId}
 use Rattle.rs_change.specs.declared.word.Reason.{Reason}
 use Rattle.rs_table.specs.Codes.{tables_code}
 use Rattle.rs_table.specs.Content.{TablesContent, rib_left}
 use Rattle.rs_update.specs.declared.errors.Errors.{Errors}
 use Rattle.rs_mrt.specs.Reader.{ReadEnd}
 use Rattle.rs_mrt.specs.Record.{MrtRecord}
-use Rattle.rs_serve.specs.Identity.{id_of}
 use Rattle.rs_serve.specs.declared.ended.PeerEnd.{PeerEnd}
 
 -- the tables, and how each peer's session ended, in the order of the peers

@@ -6,7 +6,7 @@
 //!
 //! Reading order, the shards: `part_laws` (what the part of a list leaves), `taking` (what one item makes of the
 //! tables), `shard` (all items), `shard_crew` (all shards), `laws` (what their tables come to). Before a run:
-//! `identity` (who a peer is), `at_hand` (readers of files, and their records), `capacity` (of rings), `lines` and `rings` (what each
+//! `at_hand` (readers of files, and their records), `capacity` (of rings), `lines` and `rings` (what each
 //! thread takes). Then its threads: `crew` (their start and join). Then its end: `outcome` (how a run ended), `ended`
 //! and `served` (what it leaves). Last `serving` (a whole run) and `fault` (why a run is refused).
 #![tactic(auto)]
@@ -16,7 +16,6 @@ mod capacity;
 mod crew;
 mod ended;
 mod fault;
-mod identity;
 mod laws;
 mod lines;
 mod outcome;
@@ -32,7 +31,6 @@ pub use at_hand::{readers_of, record_readers};
 pub use capacity::has_room;
 pub use ended::PeerEnd;
 pub use fault::FloorRefused;
-pub use identity::peer_id;
 pub use laws::{run_shards_are_whole, shards_merge};
 pub use outcome::verdict;
 pub use part_laws::parts_by_shards;

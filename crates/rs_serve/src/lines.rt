@@ -5,7 +5,6 @@ ghost use Rattle.rs_ring.specs.Items.{is_capacity};
 ghost use Rattle.rs_choice.specs.Plan.{peer_of};
 ghost use Rattle.rs_serve.specs.Lines.{AreLines, HasLineMore, HaveRoom};
 
-use crate::identity::peer_id;
 use rs_choice::{Exchange, PeerSpec};
 use rs_mrt::Source;
 use rs_ring::{Receiver, ring};
@@ -61,7 +60,7 @@ impl<S: Source + Drop> Lines<S> {
         };
         self.jobs.push(Job {
             source,
-            id: peer_id(peer),
+            id: peer.peer_id(),
             out,
         })?;
         self.from.push(receiver)?;

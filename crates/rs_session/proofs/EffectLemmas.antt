@@ -30,14 +30,14 @@ use Rattle.rs_session.specs.Effect.{RecordEffect, PassesOver, Gives, Ends, effec
 use Rattle.rs_session.specs.Effect.{loss}
 use Rattle.rs_session.specs.Laws.{has_close, is_recorded}
 use Rattle.rs_change.specs.Change.{Change, is_close}
-use Rattle.rs_session.specs.Peer.{is_of}
+use Rattle.rs_types.specs.Peer.{is_of}
 use Rattle.std.specs.Prelude.{nat_lt}
 use Rattle.rs_mrt.specs.Endian.{big_number}
 use Rattle.rs_session.specs.UpdateChanges.{withdraws, announces, announcements, changes_of_update, changes_of_treated, is_listed}
 use Rattle.rs_session.specs.UpdateChanges.{withdrawn_only, unicast}
 use Rattle.rs_update.specs.declared.errors.Errors.{Errors}
 use Rattle.rs_update.specs.declared.errors.Errors.TheVariants.{Rfc4271, Rfc7606}
-use Rattle.rs_session.specs.declared.peer.PeerId.{PeerId}
+use Rattle.rs_types.specs.declared.peer_id.PeerId.{PeerId}
 
 abbrev pub IsFine : ℕ → RecordEffect → Type 0
 IsFine octets PassesOver = Unit {0}

@@ -10,7 +10,7 @@ use Rattle.rs_session.specs.Effect.{PassesOver, Gives, Ends, effect_of}
 use Rattle.rs_session.specs.FileChanges.{changes_of, passed_of, close_at, reason_at_end, open_records, ends, passes_over, changes_by}
 use Rattle.rs_session.specs.FileChanges.{closing}
 use Rattle.rs_update.specs.declared.errors.Errors.{Errors}
-use Rattle.rs_session.specs.declared.peer.PeerId.{PeerId}
+use Rattle.rs_types.specs.declared.peer_id.PeerId.{PeerId}
 use Rattle.rs_change.specs.declared.word.Reason.{Reason}
 
 -- no records

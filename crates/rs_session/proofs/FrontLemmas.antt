@@ -20,7 +20,7 @@ use Rattle.rs_update.specs.declared.fault.MessageFault.{MessageFault}
 use Rattle.rs_session.specs.Effect.{effect_of, effect_of_entry}
 use Rattle.rs_session.specs.Laws.{FrontSuffices}
 use Rattle.rs_update.specs.declared.errors.Errors.{Errors}
-use Rattle.rs_session.specs.declared.peer.PeerId.{PeerId}
+use Rattle.rs_types.specs.declared.peer_id.PeerId.{PeerId}
 use Rattle.rs_session.proofs.EffectLemmas.{branch}
 
 -- what octets that are more than any message has say, by whether they begin with a Marker

@@ -17,7 +17,7 @@ use Rattle.rs_session.specs.Effect.{RecordEffect, PassesOver, Gives, Ends, effec
 use Rattle.rs_session.specs.FileChanges.{changes_of, passed_of, close_at, ends}
 use Rattle.rs_session.specs.Given.{has_end, IsRead}
 use Rattle.rs_session.specs.Laws.{FrontSuffices, GivesFileOrFails, ClosesByRead, FailedReadCloses}
-use Rattle.rs_session.specs.declared.peer.PeerId.{PeerId}
+use Rattle.rs_types.specs.declared.peer_id.PeerId.{PeerId}
 use Rattle.rs_change.specs.declared.word.Reason.TheVariants as reasons
 use Rattle.rs_update.specs.declared.errors.Errors.{Errors}
 use Rattle.rs_session.proofs.EffectLemmas.{IsFine, fine-effect}

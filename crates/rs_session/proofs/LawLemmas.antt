@@ -12,7 +12,7 @@ use Rattle.rs_session.specs.Laws.{is_recorded, may_close, ClosesLast}
 use Rattle.rs_change.specs.Change.{is_close}
 use Rattle.rs_session.specs.FileChanges.{changes_of, close_at, reason_at_end, changes_in_by}
 use Rattle.rs_update.specs.declared.errors.Errors.{Errors}
-use Rattle.rs_session.specs.declared.peer.PeerId.{PeerId}
+use Rattle.rs_types.specs.declared.peer_id.PeerId.{PeerId}
 use Rattle.rs_change.specs.declared.word.Reason.{Reason}
 use Rattle.rs_change.specs.declared.word.Reason.TheVariants as reasons
 use Rattle.rs_session.proofs.EffectLemmas.{IsFine, branch, fine-effect}

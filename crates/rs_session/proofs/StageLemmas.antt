@@ -14,7 +14,7 @@ use Rattle.rs_session.specs.Stage.{Comes, Stage, MayRead, May, Keeps, KeepsBehin
 use Rattle.rs_session.specs.Stage.{passed_in_the_end, held_octets, most_changes, Fewer}
 use Rattle.rs_session.specs.Laws.{SomethingMayCome}
 use Rattle.rs_update.specs.declared.errors.Errors.{Errors}
-use Rattle.rs_session.specs.declared.peer.PeerId.{PeerId}
+use Rattle.rs_types.specs.declared.peer_id.PeerId.{PeerId}
 use Rattle.rs_session.specs.Steps.{closed_by, GivesWaiting, Fetches, Applies, ReadsShown}
 use Rattle.rs_change.specs.declared.word.Reason.{Reason}
 use Rattle.rs_change.specs.declared.word.Word.{Word}

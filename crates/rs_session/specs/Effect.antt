@@ -12,9 +12,9 @@ use Rattle.rs_update.specs.declared.errors.Errors.{Errors}
 use Rattle.rs_update.specs.declared.fault.MessageFault.{MessageFault}
 use Rattle.rs_update.specs.declared.fault.MessageFault.TheVariants as message_fault
 use Rattle.rs_change.specs.Change.{Change, Lost}
-use Rattle.rs_session.specs.Peer.{is_of}
+use Rattle.rs_types.specs.Peer.{is_of}
 use Rattle.rs_session.specs.UpdateChanges.{changes_of_update, changes_of_treated}
-use Rattle.rs_session.specs.declared.peer.PeerId.{PeerId}
+use Rattle.rs_types.specs.declared.peer_id.PeerId.{PeerId}
 use Rattle.rs_change.specs.declared.word.Reason.{Reason}
 use Rattle.rs_change.specs.declared.word.Reason.TheVariants as reasons
 

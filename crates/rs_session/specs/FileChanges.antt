@@ -11,7 +11,7 @@ use Rattle.rs_change.specs.Change.{Change, Closed}
 use Rattle.rs_session.specs.Effect.{RecordEffect, PassesOver, Gives, Ends, effect_of}
 use Rattle.rs_update.specs.declared.errors.Errors.{Errors}
 use Rattle.rs_update.specs.declared.errors.Errors.TheVariants.{Rfc4271}
-use Rattle.rs_session.specs.declared.peer.PeerId.{PeerId}
+use Rattle.rs_types.specs.declared.peer_id.PeerId.{PeerId}
 use Rattle.rs_change.specs.declared.word.Reason.{Reason}
 use Rattle.rs_change.specs.declared.word.Reason.TheVariants.{EndOfFile, Mrt, Read}
 

@@ -13,7 +13,7 @@ use Rattle.rs_session.specs.FileChanges.{changes_of, close_at, changes_in_by}
 use Rattle.rs_session.specs.Given.{IsRead, has_end}
 use Rattle.rs_session.specs.Stage.{Comes, Stage, May, fresh}
 use Rattle.rs_update.specs.declared.errors.Errors.{Errors}
-use Rattle.rs_session.specs.declared.peer.PeerId.{PeerId}
+use Rattle.rs_types.specs.declared.peer_id.PeerId.{PeerId}
 use Rattle.rs_change.specs.declared.word.Reason.{Reason}
 use Rattle.rs_change.specs.declared.word.Reason.TheVariants as reasons
 

@@ -1,5 +1,4 @@
 -- What recorded files mean:
-pub mod Peer  -- a peer as records name it
 pub mod UpdateChanges  -- what one UPDATE says
 pub mod Effect  -- what one record says
 pub mod FileChanges  -- what all records of a file say
@@ -22,6 +21,7 @@ pub use Rattle.rs_mrt.specs.Reader
 pub use Rattle.rs_mrt.specs.Record
 pub use Rattle.rs_mrt.specs.RecordReading
 pub use Rattle.rs_mrt.specs.Source
+pub use Rattle.rs_types.specs.Peer
 pub use Rattle.rs_update.specs.Concerns
 pub use Rattle.rs_update.specs.Covering
 pub use Rattle.rs_update.specs.IpPrefix

@@ -9,7 +9,7 @@ use Rattle.rs_mrt.specs.declared.fault.SourceFault.TheVariants as faults
 use Rattle.rs_change.specs.Change.{Change, change_of, is_close, is_read_failure}
 use Rattle.rs_session.specs.FileChanges.{changes_of, passed_of}
 use Rattle.rs_update.specs.declared.errors.Errors.{Errors}
-use Rattle.rs_session.specs.declared.peer.PeerId.{PeerId}
+use Rattle.rs_types.specs.declared.peer_id.PeerId.{PeerId}
 use Rattle.rs_change.specs.declared.word.Word.{Word}
 
 -- the lists of records that may still come from a source, and how they end

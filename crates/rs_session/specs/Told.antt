@@ -8,7 +8,7 @@ use Rattle.rs_change.specs.declared.word.Reason.TheVariants as reasons
 use Rattle.rs_session.specs.FileChanges.{close_at}
 use Rattle.rs_session.specs.Given.{AreEach, FailsFirstAt}
 use Rattle.rs_session.specs.Stage.{Comes, May, fresh}
-use Rattle.rs_session.specs.declared.peer.PeerId.{PeerId}
+use Rattle.rs_types.specs.declared.peer_id.PeerId.{PeerId}
 use Rattle.rs_update.specs.declared.errors.Errors.{Errors}
 
 -- what a session tells: all its changes, and how many records it passes over

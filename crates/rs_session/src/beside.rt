@@ -6,8 +6,8 @@ ghost use Rattle.rs_mrt.specs.Record.{record_of};
 ghost use Rattle.rs_session.specs.Concerning.{IsBeside, is_past};
 ghost use Rattle.rs_session.specs.Effect.{effect_of};
 
-use crate::peer::PeerId;
 use rs_mrt::{Entry, Record, entry};
+use rs_types::PeerId;
 use rs_update::{Errors, Prefix, concerns_prefix};
 
 // The changes that are asked for, unless every change is: those on one prefix, up to a time.

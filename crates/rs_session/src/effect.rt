@@ -12,10 +12,10 @@ ghost use Rattle.rs_update.specs.Treating.{message_by};
 ghost use Rattle.rs_session.specs.Effect.{ListsPrefixOf, effect_of, effect_of_message, effect_of_state};
 ghost use Rattle.rs_session.specs.EffectView.{effect_value, IsRecorded};
 
-use crate::peer::PeerId;
 use crate::pending::Pending;
 use rs_change::Reason;
 use rs_mrt::{Entry, Record, entry};
+use rs_types::PeerId;
 use rs_update::{Errors, Message, MessageFault, read_message_by};
 use std::alloc::{AllocError, Global};
 

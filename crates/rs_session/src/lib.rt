@@ -1,7 +1,7 @@
 //! What one recorded session says: the route changes of one peer, in order (RFC 4271; RFC 6396).
 //!
 //! Reading order:
-//! - Whose a change is: `peer`. The change itself is of the crate `rs_change`.
+//! - Whose a change is: `PeerId` of the crate `rs_types`. The change itself is of the crate `rs_change`.
 //! - One record: `withdrawn` and `pending` (its changes), `effect` (what it says), `beside` (whether it may be passed
 //!   over if one prefix is asked for).
 //! - One session: `session` (one change after another), `passing` (only those on one prefix), `closing` (where it
@@ -16,7 +16,6 @@ mod closing;
 mod effect;
 mod laws;
 mod passing;
-mod peer;
 mod pending;
 mod session;
 mod withdrawn;
@@ -28,7 +27,7 @@ pub use laws::{
     a_reader_gives_a_file_or_fails, a_session_closes_once, something_may_come,
     the_front_of_a_record_suffices,
 };
-pub use peer::PeerId;
 pub use pending::Pending;
 pub use rs_change::{Body, Reason, Word};
+pub use rs_types::PeerId;
 pub use session::Session;

@@ -21,10 +21,10 @@ ghost use Rattle.rs_session.specs.Counts.{held_count};
 
 use crate::beside::{Only, is_beside};
 use crate::effect::{Effect, read_record};
-use crate::peer::PeerId;
 use crate::pending::Pending;
 use rs_change::{Body, Reason, Word};
 use rs_mrt::{Record, Records, Source, SourceFault};
+use rs_types::PeerId;
 use rs_update::Errors;
 use std::alloc::{AllocError, Global};
 use std::marker::Model;

@@ -7,8 +7,8 @@ use Rattle.std.specs.Option.{is_some}
 use Rattle.toml.specs.Data.{Data, integer, string, table, Members, get_member}
 use Rattle.rs_import.specs.AsRanges.{is_in_ranges}
 use Rattle.rs_import.specs.Import.{no_rules}
-use Rattle.rs_import.specs.declared.as_range.AsRange.{AsRange}
-use Rattle.rs_import.specs.declared.pattern.Pattern.{Pattern}
+use Rattle.rs_types.specs.declared.as_range.AsRange.{AsRange}
+use Rattle.rs_types.specs.declared.pattern.Pattern.{Pattern}
 use Rattle.rs_import.specs.declared.policy.ImportRules.{ImportRules}
 use Rattle.rs_import_files.specs.Texts.{IsAsRange, IsPattern}
 use Rattle.rs_setup.specs.Values.{AreListed, HasOnly, IsBoolean, IsSomeNumber, IsSomeText, IsWholeNumber, MayHave}

@@ -3,9 +3,9 @@ use Rattle.std.specs.Prelude.{◌≡◌, MatchBool, ℕ, List, Option, None, Som
 use Rattle.std.specs.List.{AllZip}
 use Rattle.std.specs.List.Sorted.{IsPermutation}
 use Rattle.rs_import.specs.Import.{ImportPolicy, PeerImport, no_import}
-use Rattle.rs_import.specs.declared.as_range.AsRange.{AsRange}
-use Rattle.rs_import.specs.declared.pattern.Pattern.{Pattern}
-use Rattle.rs_import.specs.declared.vrp.Vrp.{Vrp}
+use Rattle.rs_types.specs.declared.as_range.AsRange.{AsRange}
+use Rattle.rs_types.specs.declared.pattern.Pattern.{Pattern}
+use Rattle.rs_types.specs.declared.vrp.Vrp.{Vrp}
 use Rattle.rs_import_files.specs.Files.{IsAsList, IsPrefixList, IsVrpFile}
 use Rattle.rs_setup.specs.Import.{HaveSameNumbers}
 use Rattle.rs_setup.specs.declared.import_setup.ImportSetup.{ImportSetup}

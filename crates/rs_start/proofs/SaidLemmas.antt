@@ -16,9 +16,9 @@ use Rattle.rs_mrt.specs.declared.fault.MrtFault.TheVariants.{FieldsCutShort}
 use Rattle.rs_session.specs.Change.{Change}
 use Rattle.rs_session.specs.Effect.{Gives, PassesOver, effect_of, effect_of_entry, effect_of_message, effect_of_state}
 use Rattle.rs_session.specs.FileChanges.{changes_of, changes_in_by}
-use Rattle.rs_session.specs.Peer.{is_of}
+use Rattle.rs_types.specs.Peer.{is_of}
 use Rattle.rs_session.specs.UpdateChanges.{announces, unicast}
-use Rattle.rs_session.specs.declared.peer.PeerId.{PeerId}
+use Rattle.rs_types.specs.declared.peer_id.PeerId.{PeerId}
 use Rattle.rs_session.proofs.FileChangesLemmas.{changes_of-gives}
 use Rattle.rs_update.specs.IpPrefix.{IpPrefix}
 use Rattle.rs_update.specs.Laws.{Rfc4271IsAsBefore, StandardsAgree}

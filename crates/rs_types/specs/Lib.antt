@@ -11,6 +11,8 @@ pub mod PathAttributes  -- the attributes of a route
 pub mod AsPath  -- the length of AS_PATH, its neighbour AS, its members
 pub mod Community  -- communities by their halves
 pub mod Spelling  -- the written form of attributes
+-- What recordings and lists name:
+pub mod Peer  -- a peer as records name it
 -- How octets are taken apart:
 pub mod Numbers  -- numbers of four octets
 pub mod Parts  -- parts one after another

@@ -1,5 +1,5 @@
 //! Prefixes, and the path attributes of a route: RFC 4271, with AS numbers of four octets (RFC 6793) and communities
-//! (RFC 1997).
+//! (RFC 1997). What recordings and lists name stands here too, since several crates read it.
 //!
 //! Reading order:
 //! - `prefix` (an address prefix).
@@ -7,6 +7,8 @@
 //!   `handling` (what can be wrong with it, and what is done then). Then `number_list`, `as_path`, `values` and
 //!   `readers` (values of attributes).
 //! - The attributes of a route: `attributes`.
+//! - What recordings and lists name: `peer_id` (a peer in a recording), `as_range`, `pattern` and `vrp` (entries of
+//!   lists for import policy).
 //! - What holds of the definitions that the contracts cite: `laws`.
 //!
 //! The crate `rs_update` reads these of messages.
@@ -15,6 +17,7 @@
 #![tactic(auto)]
 
 mod as_path;
+mod as_range;
 mod attribute_type;
 mod attributes;
 mod fault;
@@ -23,11 +26,15 @@ mod handling;
 mod item;
 mod laws;
 mod number_list;
+mod pattern;
+mod peer_id;
 mod prefix;
 mod readers;
 mod values;
+mod vrp;
 
 pub use as_path::{Segment, SegmentView, Segments};
+pub use as_range::AsRange;
 pub use attribute_type::{AS_PATH, AttributeType, NEXT_HOP, ORIGIN, Row, WantedFlags};
 pub use attributes::{Attributes, Communities, Others, Unrecognized};
 pub use fault::UpdateFault;
@@ -39,5 +46,8 @@ pub use laws::{
     prefixes_are_ordered_by_address_then_length, prefixes_are_the_same_by_address_and_length,
 };
 pub use number_list::Numbers;
+pub use pattern::Pattern;
+pub use peer_id::PeerId;
 pub use prefix::{Prefix, covers};
 pub use values::{Aggregator, Origin};
+pub use vrp::Vrp;

@@ -6,7 +6,7 @@ use Rattle.rs_mrt.specs.Source.{IsLeft}
 use Rattle.rs_session.specs.Change.{Change, change_of}
 use Rattle.rs_session.specs.FileChanges.{changes_in, passed_in, default_standard}
 use Rattle.rs_session.specs.Stage.{May, fresh}
-use Rattle.rs_session.specs.declared.peer.PeerId.{PeerId}
+use Rattle.rs_types.specs.declared.peer_id.PeerId.{PeerId}
 use Rattle.rs_worker.specs.Worked.{MayGive, HasWorked, just}
 use Rattle.rs_worker.specs.declared.work.WorkerEnd.{WorkerEnd}
 use Rattle.rs_session.proofs.StageLemmas.{says_just-file}

@@ -5,7 +5,7 @@ use Rattle.rs_mrt.specs.Record.{MrtRecord}
 use Rattle.rs_ring.specs.Ends.{Ring, Receiving}
 use Rattle.rs_session.specs.Stage.{Comes, May, fresh}
 use Rattle.rs_change.specs.declared.word.Word.{Word}
-use Rattle.rs_session.specs.declared.peer.PeerId.{PeerId}
+use Rattle.rs_types.specs.declared.peer_id.PeerId.{PeerId}
 use Rattle.rs_update.specs.declared.errors.Errors.{Errors}
 use Rattle.rs_worker.specs.Worked.{MayGive, HasSent}
 use Rattle.rs_worker.specs.declared.crew.Job.{Job}

@@ -2,7 +2,7 @@
 //! loss that the records show.
 
 use super::runs::options;
-use rs_losses::Sought;
+use rs_losses::{PeerId, Sought};
 use rs_mrt::{Bounds, FileReading, Losses, Tail};
 use rs_run::run_over_records;
 use rs_setup::read_setup;
@@ -35,13 +35,17 @@ const UPDATE_OF_B: &str =
 // The peers whose losses are looked for.
 const WHOSE: [Sought; 2] = [
     Sought {
-        address: 0xc000_020b,
-        asn: 64501,
+        peer: PeerId {
+            address: 0xc000_020b,
+            asn: 64501,
+        },
         alone: true,
     },
     Sought {
-        address: 0xc000_020c,
-        asn: 64502,
+        peer: PeerId {
+            address: 0xc000_020c,
+            asn: 64502,
+        },
         alone: true,
     },
 ];

@@ -5,7 +5,7 @@ use Rattle.std.proofs.lemmas.List.{length-map, take-append-le}
 use Rattle.rs_ring.specs.Ends.{Receiving, Sending}
 use Rattle.rs_session.specs.Change.{Change, change_of}
 use Rattle.rs_session.specs.FileChanges.{changes_in}
-use Rattle.rs_session.specs.declared.peer.PeerId.{PeerId}
+use Rattle.rs_types.specs.declared.peer_id.PeerId.{PeerId}
 use Rattle.rs_change.specs.declared.word.Word.{Word}
 use Rattle.rs_floor.specs.Lane.{LaneContent, NoneClosesBefore, fresh_lane, sent_changes, to_come}
 use Rattle.rs_floor.specs.LaneView.{IsLane, lane_view}

@@ -4,8 +4,7 @@ use Rattle.std.specs.Prelude.{slice_get}
 use Rattle.std.proofs.Math.ListN.{get_or-map}
 use Rattle.std.proofs.lemmas.Option.{get_or_from_slice_get, slice_get_within}
 use borrow.Author.Count.{below_more}
-use Rattle.rs_choice.specs.Plan.{Peer}
-use Rattle.rs_serve.specs.Identity.{id_of}
+use Rattle.rs_choice.specs.Plan.{Peer, id_of}
 use Rattle.rs_floor.specs.Lane.{LaneContent, fresh_lane}
 use Rattle.rs_patience.proofs.PlaceLemmas.{get-front, get-seam}
 

@@ -6,12 +6,11 @@ use Rattle.std.specs.Option.{option_map}
 use Rattle.std.proofs.lemmas.List.{length-map}
 use Rattle.std.proofs.lemmas.Option.{slice_get-map, slice_get-get_or, slice_get_within}
 use Rattle.std.proofs.Math.Seq.{take-length}
-use Rattle.rs_choice.specs.Plan.{Peer, Plan}
+use Rattle.rs_choice.specs.Plan.{Peer, Plan, id_of}
 use Rattle.rs_session.specs.Change.{Change}
 use Rattle.rs_session.specs.FileChanges.{changes_in}
 use Rattle.rs_table.specs.Content.{RibContent, TablesContent, rib_of, rib_left, nothing_held}
 use Rattle.rs_floor.specs.FloorContent.{IsPeerReplayed, IsReplayed, recorded_by}
-use Rattle.rs_serve.specs.Identity.{id_of}
 use Rattle.rs_floor.specs.Lane.{LaneContent, fresh_lane, lane_through, received_of}
 use Rattle.rs_floor.specs.Laws.{DrainedSchedulesAgree}
 use Rattle.rs_floor.specs.Schedule.{at_start, after_turns}

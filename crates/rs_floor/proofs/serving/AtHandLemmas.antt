@@ -4,15 +4,14 @@ use Rattle.std.proofs.Common.{length-append, Some, Result, Ok, Err}
 use Rattle.std.specs.Prelude.{slice_get}
 use Rattle.std.proofs.lemmas.List.{length-map}
 use Rattle.std.proofs.lemmas.Option.{slice_get_within}
-use Rattle.rs_choice.specs.Plan.{Peer, Plan}
+use Rattle.rs_choice.specs.Plan.{Peer, Plan, id_of}
 use Rattle.rs_mrt.specs.MemoryReading.{MemoryReading, Comes}
 use Rattle.rs_mrt.specs.Reader.{ReadEnd, FileEnds, ReadFails}
 use Rattle.rs_mrt.specs.RecordReading.{read_limit}
 use Rattle.rs_session.specs.FileChanges.{changes_in_by}
 use Rattle.rs_session.specs.Given.{MayFail}
-use Rattle.rs_session.specs.declared.peer.PeerId.{PeerId}
+use Rattle.rs_types.specs.declared.peer_id.PeerId.{PeerId}
 use Rattle.rs_update.specs.declared.errors.Errors.{Errors}
-use Rattle.rs_serve.specs.Identity.{id_of}
 use Rattle.rs_serve.specs.Served.{tables_of}
 use Rattle.rs_floor.specs.ServeFiles.{ServeFilesAnswer}
 use Rattle.rs_serve.specs.AtHand.{whole_of}

@@ -4,7 +4,7 @@ use Rattle.std.proofs.Common.{take, Option, Some}
 use Rattle.std.specs.Prelude.{slice_get}
 use Rattle.std.proofs.lemmas.List.{length-map, length-take}
 use Rattle.std.proofs.lemmas.Option.{slice_get_within}
-use Rattle.rs_choice.specs.Plan.{Peer, Plan}
+use Rattle.rs_choice.specs.Plan.{Peer, Plan, id_of}
 use Rattle.rs_mrt.specs.Record.{MrtRecord}
 use Rattle.rs_ring.specs.Ends.{Receiving}
 use Rattle.rs_router.specs.Routing.{received_lists}
@@ -12,7 +12,7 @@ use Rattle.rs_session.specs.Change.{Change, change_of, is_read}
 use Rattle.rs_session.specs.Given.{AreEach}
 use Rattle.rs_session.specs.Stage.{Comes, May, fresh}
 use Rattle.rs_session.specs.Told.{MayFailToTellAt, Tells, Told}
-use Rattle.rs_session.specs.declared.peer.PeerId.{PeerId}
+use Rattle.rs_types.specs.declared.peer_id.PeerId.{PeerId}
 use Rattle.rs_change.specs.declared.word.Word.{Word}
 use Rattle.rs_serve.specs.Crew as charges
 use Rattle.rs_serve.specs.declared.shard_crew.ShardJob.{ShardJob}
@@ -22,7 +22,6 @@ use Rattle.rs_worker.specs.Crew.{HasJoined, charge_of}
 use Rattle.rs_worker.specs.Worked.{is_memory}
 use Rattle.rs_worker.specs.declared.crew.Job.{Job}
 use Rattle.rs_worker.specs.declared.crew.Joined.{Joined}
-use Rattle.rs_serve.specs.Identity.{id_of}
 use Rattle.rs_serve.specs.Lines.{AreLines}
 use Rattle.rs_serve.specs.Run.{HasRun, IsAnswer, IsFirstRead, IsWell, end_of}
 use Rattle.rs_serve.specs.Served.{ServedContent, IsEndOfTold, IsServedOver}

@@ -4,7 +4,7 @@ use Rattle.std.specs.Prelude.{slice_get}
 use Rattle.std.specs.List.{zip}
 use Rattle.std.proofs.lemmas.List.{length-map, length-take, take-map}
 use Rattle.std.proofs.lemmas.Option.{slice_get_within}
-use Rattle.rs_choice.specs.Plan.{Peer, Plan}
+use Rattle.rs_choice.specs.Plan.{Peer, Plan, id_of}
 use Rattle.rs_mrt.specs.Reader.{ReadEnd}
 use Rattle.rs_mrt.specs.RecordReading.{RecordReading, MayCome, unread}
 use Rattle.rs_session.specs.Change.{Change}
@@ -12,10 +12,9 @@ use Rattle.rs_session.specs.FileChanges.{changes_in_by, passed_in_by}
 use Rattle.rs_session.specs.Given.{IsGiven, AreEach, AreGiven, MayFailAt}
 use Rattle.rs_session.specs.Laws.{ClosesOnce, GivesFileOrFails, FailedReadCloses}
 use Rattle.rs_session.specs.Told.{MayFailToTell, MayFailToTellAt, Tells, Told}
-use Rattle.rs_session.specs.declared.peer.PeerId.{PeerId}
+use Rattle.rs_types.specs.declared.peer_id.PeerId.{PeerId}
 use Rattle.rs_table.specs.Content.{TablesContent}
 use Rattle.rs_update.specs.declared.errors.Errors.{Errors}
-use Rattle.rs_serve.specs.Identity.{id_of}
 use Rattle.rs_serve.specs.ServeAnswer.{ServeAnswer, ServeSourcesAnswer}
 use Rattle.rs_serve.specs.Served.{ServedContent, IsEndOf, IsServedAs, IsServedBy, IsServedOver, changes_by_peer, tables_of}
 use Rattle.rs_serve.specs.declared.ended.PeerEnd.{PeerEnd}

@@ -4,7 +4,7 @@ use Rattle.std.proofs.Common.{length-append}
 use Rattle.std.specs.Prelude.{slice_get}
 use Rattle.std.proofs.lemmas.List.{length-drop, map-append, take_all}
 use Rattle.std.proofs.lemmas.List.Elements.{All-nil, All-push}
-use Rattle.rs_choice.specs.Plan.{Peer, Plan}
+use Rattle.rs_choice.specs.Plan.{Peer, Plan, id_of}
 use Rattle.rs_ring.specs.Ends.{Receiving, Sending}
 use Rattle.rs_router.specs.declared.routed.Routed.{Routed}
 use Rattle.rs_change.specs.declared.word.Word.{Word}
@@ -12,7 +12,6 @@ use Rattle.rs_serve.specs.Crew.{IsReady}
 use Rattle.rs_serve.specs.Laws.{IsOfPlan}
 use Rattle.rs_serve.specs.declared.shard_crew.ShardJob.{ShardJob}
 use Rattle.rs_worker.specs.declared.crew.Job.{Job}
-use Rattle.rs_serve.specs.Identity.{id_of}
 use Rattle.rs_serve.specs.Lines.{IsLine, IsRing, CanWork, AreLines}
 use Rattle.rs_patience.proofs.PlaceLemmas.{drop-front, drop-later, take-more}
 

@@ -6,7 +6,7 @@ use Rattle.std.specs.Prelude.{IfErr, IfOk, slice_get}
 use Rattle.std.proofs.lemmas.List.{length-map, nil_from_length}
 use Rattle.std.proofs.lemmas.List.Elements.{All-map}
 use Rattle.std.proofs.lemmas.Option.{slice_get-get_or, slice_get_within}
-use Rattle.rs_choice.specs.Plan.{Plan}
+use Rattle.rs_choice.specs.Plan.{Plan, id_of}
 use Rattle.rs_mrt.specs.Record.{MrtRecord}
 use Rattle.rs_ring.specs.Ends.{Receiving, Sending}
 use Rattle.rs_router.specs.Routing.{AreClosed, AreShardParts, received_lists}
@@ -23,7 +23,6 @@ use Rattle.rs_update.specs.declared.errors.Errors.{Errors}
 use Rattle.rs_worker.specs.Crew.{AllJoined, Charge, charge_of}
 use Rattle.rs_worker.specs.declared.crew.Job.{Job}
 use Rattle.rs_worker.specs.declared.crew.Joined.{Joined}
-use Rattle.rs_serve.specs.Identity.{id_of}
 use Rattle.rs_serve.specs.Lines.{AreLines, AreRings, HasFewOctets}
 use Rattle.rs_serve.specs.Run.{HasRun, CanMerge, IsAnswer, IsRefusal}
 use Rattle.rs_serve.specs.ServeAnswer.{ServeSourcesAnswer, WithinLimits}

@@ -16,7 +16,7 @@ use Rattle.rs_session.specs.Given.{MayFail, SaysGiven, SaysFailed}
 use Rattle.rs_session.specs.Laws.{ClosesOnce, GivesFileOrFails, FailedReadCloses, ClosesByRead, may_close}
 use Rattle.rs_session.specs.Stage.{Comes, May, fresh}
 use Rattle.rs_session.specs.Told.{ClosesFor, MayFailToTell, Tells, Told}
-use Rattle.rs_session.specs.declared.peer.PeerId.{PeerId}
+use Rattle.rs_types.specs.declared.peer_id.PeerId.{PeerId}
 use Rattle.rs_change.specs.declared.word.Reason.{Reason}
 use Rattle.rs_change.specs.declared.word.Reason.TheVariants as reasons
 use Rattle.rs_change.specs.declared.word.Word.{Word}

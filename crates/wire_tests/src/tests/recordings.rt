@@ -333,8 +333,7 @@ fn losses_of(way: &str) -> (Losses, Sought) {
         Losses::Recorded
     };
     let peer = Sought {
-        address: PEER.address,
-        asn: PEER.asn,
+        peer: PEER,
         alone: !way.contains("beside another"),
     };
     (losses, peer)

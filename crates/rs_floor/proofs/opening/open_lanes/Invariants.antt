@@ -1,7 +1,6 @@
 use Rattle.std.proofs.Common.{◌≡◌, ◌<◌, ℕ, List, Some, length, map}
 use Rattle.std.specs.Prelude.{slice_get}
-use Rattle.rs_choice.specs.Plan.{Peer}
-use Rattle.rs_serve.specs.Identity.{id_of}
+use Rattle.rs_choice.specs.Plan.{Peer, id_of}
 use Rattle.rs_floor.specs.Lane.{fresh_lane}
 use Rattle.rs_floor.proofs.opening.open_lanes.Given as goal
 

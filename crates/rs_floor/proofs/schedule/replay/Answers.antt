@@ -2,9 +2,8 @@
 use Rattle.std.proofs.Common.{◌≡◌, ◌∙◌, sym, ap, subst, rules, ℕ, List, Bor, map, length, Some}
 use Rattle.std.specs.Prelude.{slice_get}
 use Rattle.std.proofs.lemmas.List.{length-map}
-use Rattle.rs_choice.specs.Plan.{Peer, Plan}
+use Rattle.rs_choice.specs.Plan.{Peer, Plan, id_of}
 use Rattle.rs_floor.specs.FloorContent.{FloorContent, IsReplayed, recorded_by}
-use Rattle.rs_serve.specs.Identity.{id_of}
 use Rattle.rs_floor.specs.Lane.{LaneContent, fresh_lane}
 use Rattle.rs_floor.specs.Steps.{HoldReceived}
 use Rattle.rs_floor.proofs.schedule.ReplayLemmas.{held-fresh, replayed}

@@ -1,5 +1,5 @@
 use Rattle.std.proofs.Common.{sym, subst}
-use Rattle.rs_import.specs.declared.vrp.Validity.{Validity}
+use Rattle.rs_import.specs.declared.validity.Validity.{Validity}
 use Rattle.rs_import.specs.Rpki.{HasValidity}
 use Rattle.rs_import.proofs.ValidityLemmas.{has-value, value-of}
 use Rattle.rs_import.proofs.laws.each_route_has_one_validity.Goals as goal

@@ -1,5 +1,5 @@
 use Rattle.std.proofs.Common.{sym, subst, List}
-use Rattle.rs_import.specs.declared.pattern.Pattern.{Pattern}
+use Rattle.rs_types.specs.declared.pattern.Pattern.{Pattern}
 use Rattle.rs_import.specs.Nesting.{IsNotBefore}
 use Rattle.rs_import.proofs.SetLemmas.{front-not_before}
 use Rattle.rs_import.proofs.prefix_set.nesting_of.Goals as goal

@@ -1,6 +1,6 @@
 use Rattle.std.proofs.Common.{◌∙◌, sym, ap, subst, List, map, take, ℕ}
 use Rattle.std.proofs.lemmas.List.{take_all}
-use Rattle.rs_import.specs.declared.pattern.Pattern.{Pattern}
+use Rattle.rs_types.specs.declared.pattern.Pattern.{Pattern}
 use Rattle.rs_import.specs.Nesting.{IsNotBefore}
 use Rattle.rs_import.specs.VrpsView.{pattern_of_vrp, vrps_of}
 use Rattle.rs_import.proofs.VrpLemmas.{vrp-not_before, vrps-itself}

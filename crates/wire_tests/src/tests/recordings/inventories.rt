@@ -111,7 +111,7 @@ records count for their peer alone
     peers 2
     192.0.2.11 64501 counts [4, 3, 1, 1, 4, 2]
     192.0.2.12 64502 counts [1, 1, 0, 0, 0, 0]
-    Some(Peer { address: 3221225985, asn: 64500 })
+    Some(PeerId { address: 3221225985, asn: 64500 })
 
 # OPENs of two peers in both forms, with another identifier of the first peer in between: 192.0.2.111, then .112, then
 # .111 again; 192.0.2.116. Records of two octets of AS number count for none.
@@ -325,7 +325,7 @@ a file that comes in pieces holds the same
     octets Some(199) end None
     times Some(100) Some(102)
     compression None
-    Some(Peer { address: 3221225985, asn: 64500 })
+    Some(PeerId { address: 3221225985, asn: 64500 })
     peers 2
     192.0.2.11 64501 counts [2, 2, 0, 0, 2, 1]
     192.0.2.11 64501 identifiers [3221226095]

@@ -2,7 +2,7 @@
 
 use super::file_of;
 use rs_inventory::{
-    InventoryFault, Outline, OutlineSlot, Outlined, Peer, outline_of, read_outline,
+    InventoryFault, Outline, OutlineSlot, Outlined, PeerId, outline_of, read_outline,
 };
 use rs_mrt::{Cut, MemoryReader, MrtFault, ReadLimits, RecordReader, Source};
 use std::alloc::Global;
@@ -14,18 +14,18 @@ const RECORDS: &str = "100 16.4 of-64501 MARKER OPEN
     102 16.4 of-64502 MARKER KEEPALIVE";
 
 // The server as records name it, and another one.
-const SERVER: Peer = Peer {
+const SERVER: PeerId = PeerId {
     address: 0xC000_0201,
     asn: 64500,
 };
 
-const ANOTHER: Peer = Peer {
+const ANOTHER: PeerId = PeerId {
     address: 0xC000_0202,
     asn: 64500,
 };
 
 // A peer of the second record.
-const NARROW: Peer = Peer {
+const NARROW: PeerId = PeerId {
     address: 0xC000_020B,
     asn: 64501,
 };
@@ -40,7 +40,7 @@ fn outline_in_slot(
     alloc: Global,
     file: &[u8],
     limits: ReadLimits,
-    server: Peer,
+    server: PeerId,
 ) -> Option<Outline> {
     let slot = OutlineSlot::empty();
     let mut source = Outlined::new(alloc, records_of(file, limits), server, Some(&slot));

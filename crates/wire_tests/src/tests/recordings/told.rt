@@ -1,14 +1,14 @@
 //! The texts in which rows write what a recorded file holds.
 
 use super::super::said::Said;
-use rs_inventory::{Inventory, Kind, Peer, PeerRecords, read_inventory};
+use rs_inventory::{Inventory, Kind, PeerId, PeerRecords, read_inventory};
 use rs_mrt::{Bounds, MemoryReader, ReadLimits};
 use std::alloc::Global;
 use std::net::Ipv4Addr;
 
 // Appends what is known of a peer: how many records it has, messages, changes of state, messages at fault, and prefixes
 // announced and withdrawn; its BGP Identifiers; when its sessions came up and went down.
-fn add_peer(said: &mut Said, peer: &Peer, of: &PeerRecords) {
+fn add_peer(said: &mut Said, peer: &PeerId, of: &PeerRecords) {
     let (address, asn) = (Ipv4Addr::from_bits(peer.address), peer.asn);
     let counts = [
         of.records(),

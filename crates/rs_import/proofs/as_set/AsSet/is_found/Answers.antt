@@ -1,5 +1,5 @@
 use Rattle.std.proofs.Common.{◌∙◌, ◌+◌, ◌-◌, ℕ, List, arith, ap, length, subst, sym}
-use Rattle.rs_import.specs.declared.as_range.AsRange.{AsRange}
+use Rattle.rs_types.specs.declared.as_range.AsRange.{AsRange}
 use Rattle.rs_import.specs.AsRanges.{is_in_ranges}
 use Rattle.rs_import.specs.Reaches.{IsReach}
 use Rattle.rs_import.proofs.ReachLemmas.{has-by_reach, has-none}

@@ -1,6 +1,6 @@
 use Rattle.std.proofs.Common.{sym, subst, List, ℕ, rules}
 use Rattle.std.proofs.lemmas.List.Sorted.{IsNonDecreasingBy-from_sort_by_key, list_any-IsPermutation}
-use Rattle.rs_import.specs.declared.as_range.AsRange.{AsRange}
+use Rattle.rs_types.specs.declared.as_range.AsRange.{AsRange}
 use Rattle.rs_import.specs.AsRanges.{is_in_range}
 use Rattle.rs_import.specs.Bits.{AreBits}
 use Rattle.rs_import.specs.Blocks.{AreStarts}

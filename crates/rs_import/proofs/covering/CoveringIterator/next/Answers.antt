@@ -1,5 +1,5 @@
 use Rattle.std.proofs.Common.{◌≡◌, ◌∙◌, sym, ap, arith, ◌<◌, ◌-◌, true, rules, length, List, ◌∷◌}
-use Rattle.rs_import.specs.declared.vrp.Vrp.{Vrp}
+use Rattle.rs_types.specs.declared.vrp.Vrp.{Vrp}
 use Rattle.rs_import.specs.Rpki.{is_covering}
 use Rattle.rs_import.proofs.SearchLemmas.{filter-first, filter-walk}
 use Rattle.rs_import.proofs.VrpLemmas.{no_vrp}

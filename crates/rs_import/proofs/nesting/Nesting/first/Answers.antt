@@ -1,7 +1,7 @@
 use Rattle.std.proofs.Common.{subst, List, length, map, ◌≤◌, ◌<◌}
 use Rattle.std.specs.List.{AllWithin}
 use Rattle.rs_import.specs.declared.nesting.Node.{Node}
-use Rattle.rs_import.specs.declared.pattern.Pattern.{Pattern}
+use Rattle.rs_types.specs.declared.pattern.Pattern.{Pattern}
 use Rattle.rs_import.specs.Nesting.{IsLastCover, pattern_of}
 use Rattle.rs_import.proofs.CoverLemmas.{last_cover-of_all}
 use Rattle.rs_import.proofs.nesting.Nesting.first.Goals as goal

@@ -4,7 +4,7 @@ use Rattle.std.specs.Prelude.{slice_index_or}
 use Rattle.std.proofs.lemmas.List.{get_or_default, length-map}
 use Rattle.rs_types.specs.Covering.{covers}
 use Rattle.rs_import.specs.declared.nesting.Node.{Node}
-use Rattle.rs_import.specs.declared.pattern.Pattern.{Pattern}
+use Rattle.rs_types.specs.declared.pattern.Pattern.{Pattern}
 use Rattle.rs_import.specs.Nesting.{IsLastCover, IsUpTo, pattern_of}
 use Rattle.rs_import.proofs.CoverLemmas.{covering-at, last_cover-before, no_node, up_to-place}
 use Rattle.rs_import.proofs.nesting.Nesting.next.Goals as goal

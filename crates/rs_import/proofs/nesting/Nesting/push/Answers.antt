@@ -1,6 +1,6 @@
 use Rattle.std.proofs.Common.{arith, ◌≡◌, sym, ap, subst, ℕ, List, length, map}
 use Rattle.rs_import.specs.declared.nesting.Node.{Node}
-use Rattle.rs_import.specs.declared.pattern.Pattern.{Pattern}
+use Rattle.rs_types.specs.declared.pattern.Pattern.{Pattern}
 use Rattle.rs_import.specs.Nesting.{IsLastCover, IsNotBefore, IsUpTo, pattern_of}
 use Rattle.rs_import.proofs.BlockLemmas.{starts-none}
 use Rattle.rs_import.proofs.CoverLemmas.{nested-push_at, node-prefix, nodes-behind, up_to-behind}

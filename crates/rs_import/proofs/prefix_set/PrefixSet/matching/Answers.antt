@@ -2,7 +2,7 @@ use Rattle.std.proofs.Common.{arith, ◌≡◌, ◌∙◌, sym, subst, List, len
 use Rattle.std.specs.Prelude.{slice_index_or}
 use Rattle.std.specs.List.Sorted.{IsNonDecreasingBy}
 use Rattle.rs_types.specs.Covering.{covers}
-use Rattle.rs_import.specs.declared.pattern.Pattern.{Pattern}
+use Rattle.rs_types.specs.declared.pattern.Pattern.{Pattern}
 use Rattle.rs_import.specs.Nesting.{IsLastCover, rank_of}
 use Rattle.rs_import.specs.Patterns.{is_match}
 use Rattle.rs_import.proofs.SearchLemmas.{find-start, find-step, found-first}

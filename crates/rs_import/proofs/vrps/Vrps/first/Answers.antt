@@ -1,5 +1,5 @@
 use Rattle.std.proofs.Common.{arith, subst, List, length, sym, ℕ}
-use Rattle.rs_import.specs.declared.vrp.Vrp.{Vrp}
+use Rattle.rs_types.specs.declared.vrp.Vrp.{Vrp}
 use Rattle.rs_import.specs.VrpsView.{IsLastCovering, vrps_of}
 use Rattle.rs_import.proofs.VrpLemmas.{covering-of, length-vrps}
 use Rattle.rs_import.proofs.vrps.Vrps.first.Goals as goal

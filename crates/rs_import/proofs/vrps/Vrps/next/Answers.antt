@@ -1,6 +1,6 @@
 use Rattle.std.proofs.Common.{◌≡◌, ap, arith, subst, List, length, sym, ◌<◌, ◌≤◌, true}
 use Rattle.std.specs.List.{HoldsAt}
-use Rattle.rs_import.specs.declared.vrp.Vrp.{Vrp}
+use Rattle.rs_types.specs.declared.vrp.Vrp.{Vrp}
 use Rattle.rs_import.specs.Rpki.{is_covering}
 use Rattle.rs_import.specs.VrpsView.{IsLastCovering}
 use Rattle.rs_import.proofs.VrpLemmas.{covering-of, length-vrps, pattern-holds}

@@ -1,7 +1,7 @@
 use Rattle.std.proofs.Common.{◌∙◌, ap, arith, sym, ℕ, List, length, ◌<◌}
 use Rattle.std.specs.Prelude.{slice_index_or}
-use Rattle.rs_import.specs.declared.pattern.Pattern.{Pattern}
-use Rattle.rs_import.specs.declared.vrp.Vrp.{Vrp}
+use Rattle.rs_types.specs.declared.pattern.Pattern.{Pattern}
+use Rattle.rs_types.specs.declared.vrp.Vrp.{Vrp}
 use Rattle.rs_import.proofs.VrpLemmas.{length-vrps, vrp-at}
 use Rattle.rs_import.proofs.vrps.Vrps.vrp.Goals as goal
 

@@ -1,7 +1,6 @@
 -- There is room for what is known of each thread.
 use Rattle.std.proofs.Common.{◌≡◌, ◌∙◌, sym, ap, length, arith}
-use Rattle.rs_choice.specs.Plan.{Plan}
-use Rattle.rs_serve.specs.Identity.{id_of}
+use Rattle.rs_choice.specs.Plan.{Plan, id_of}
 use Rattle.rs_patience.proofs.PlaceLemmas.{same-counted}
 use Rattle.rs_serve.proofs.crew.Crew.new.Goals as goal
 

@@ -1,6 +1,6 @@
 //! Patterns of prefixes, as those of BIRD's prefix sets.
 
-use rs_types::Prefix;
+use crate::prefix::Prefix;
 
 /// The prefixes inside one prefix whose lengths lie within bounds.
 #[derive(Clone, Copy, Debug, PartialEq, Eq)]
