@@ -7,7 +7,7 @@
 
 use crate::peer::Peer;
 use byteorder::{BigEndian, ByteOrder};
-use rs_mrt::{AFI_IPV4, BGP4MP, BGP4MP_ET, MESSAGE_AS4, Record};
+use rs_mrt::{AFI_IPV4, BGP4MP, BGP4MP_ET, MESSAGE_AS4, MICROSECONDS_LEN, Record};
 use rs_types::split_item;
 use std::alloc::{AllocError, Global};
 use std::collections::BTreeMap;
@@ -19,9 +19,6 @@ const MESSAGE: u16 = 1;
 const MESSAGE_ADD_PATH: u16 = 8;
 
 const MESSAGE_AS4_ADD_PATH: u16 = 9;
-
-// How many octets of microseconds a BGP4MP_ET body begins with (RFC 6396, section 3).
-const MICROSECONDS_LEN: usize = 4;
 
 // Where the Address Family, the Peer IP Address and the message stand behind AS numbers of two octets; of four octets
 // they stand four octets behind.
