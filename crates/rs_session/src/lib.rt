@@ -5,7 +5,7 @@
 //! - One record: `withdrawn` and `pending` (its changes), `effect` (what it says), `beside` (whether it may be passed
 //!   over if one prefix is asked for).
 //! - One session: `session` (one change after another), `passing` (only those on one prefix), `closing` (where it
-//!   closed).
+//!   closed), `reason_text` (the text of why).
 //! - What holds of the definitions that the contracts cite: `laws`.
 //!
 //! A call that allocates fails if memory is refused.
@@ -18,6 +18,7 @@ mod laws;
 mod passing;
 mod peer;
 mod pending;
+mod reason_text;
 mod session;
 mod withdrawn;
 
@@ -30,5 +31,6 @@ pub use laws::{
 };
 pub use peer::PeerId;
 pub use pending::Pending;
+pub use reason_text::ReasonText;
 pub use rs_change::{Body, Reason, Word};
 pub use session::Session;
