@@ -13,6 +13,7 @@ use Rattle.rs_losses.specs.Losses.{with_losses}
 use Rattle.rs_losses.specs.WithLosses.{ComesFirst, end_within as end_below, within as below}
 use Rattle.rs_losses.specs.WithLosses.{shown_by}
 use Rattle.rs_losses.specs.declared.losses.Sought.{Sought}
+use Rattle.rs_mrt.proofs.PushedLemmas.{at-pushed}
 use Rattle.rs_mrt.specs.Bounds.{end_within, records_until}
 use Rattle.rs_mrt.specs.Entry.{front_of}
 use Rattle.rs_mrt.specs.Leniency.{Leniency}
@@ -194,17 +195,6 @@ module _ (errors : Errors) (peer : PeerId) (who : Sought) (file : List ℕ) wher
       ∙ ap (telling (told_in errors reading peer who file).changes) are.passed
 
 -- ---- all files
-
--- what stands at a place of a list with one more: what stood there, or the last one
-at-pushed : {X : Type 0} (xs : List X) (x y : X) (n : ℕ) → slice_get (xs ++ x ∷ []) n ≡ Some y → (slice_get xs n ≡ Some y)
-    ⊎ ((n ≡ length xs) × (x ≡ y))
-at-pushed [] x y zero e = inr (refl, cc)
-at-pushed [] x y (suc n) e = absurd cc
-at-pushed (z ∷ zs) x y zero e = inl e
-at-pushed (z ∷ zs) x y (suc n) e = elim (at-pushed zs x y n e) [
-  | inl there ↦ inl there
-  | inr last ↦ inr (ap suc last.0, last.1)
-]
 
 -- the next file has its source too
 pub one-more-read : (reading : FileReading) (whose : List Sought) (files : List (List ℕ)) (sources : List Reading) (source : Reading)
