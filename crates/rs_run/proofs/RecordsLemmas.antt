@@ -42,7 +42,8 @@ use Rattle.rs_table.specs.Content.{TablesContent}
 use Rattle.rs_update.specs.declared.errors.Errors.{Errors}
 use Rattle.rs_patience.proofs.PlaceLemmas.{get-map, some-at}
 use Rattle.rs_run.proofs.EndLemmas.{last-same, reason-is, reason-same}
-use Rattle.rs_run.specs.OverRecords.{end_told, records_read_so, served_of_told, told_in, told_of_files, with_losses_by}
+use Rattle.rs_run.specs.OverRecords.{end_told, records_read_so, served_of_records, served_of_told, told_in, told_of_files}
+use Rattle.rs_run.specs.OverRecords.{with_losses_by}
 use Rattle.rs_run.specs.ReadSo.{AreReadSo, AreShown, IsReadSo, Reading, comes}
 use Rattle.rs_run.specs.SessionEnd.{reason_in}
 
@@ -301,7 +302,7 @@ module _ (errors : Errors) (reading : FileReading) (plan : Plan) (whose : List S
   -- what is served is what the sessions tell of the records that are read
   pub served-of-records : ClosesOnce → length whose ≡ length plan.peers → length files ≡ length plan.peers
       → (served : ServedContent) → IsServedAs plan all served
-      → served ≡ served_of_told plan (told_of_files errors reading plan.peers whose files)
+      → served ≡ served_of_records errors reading plan whose files
   served-of-records once as_whose as_files served so_served =
       let as_many : length all ≡ length plan.peers = is.as_many ∙ count ∙ as_files in
       let ends : served.ends ≡ map end_told all =
