@@ -9,21 +9,17 @@
 ghost use Rattle.std.specs.Prelude.{◌≡◌, ◌≤◌, ◌^◌, All, Some, IfErr, length};
 ghost use Rattle.rs_program.specs.Texts.{CanTell};
 
-mod findings;
-
-use crate::findings::Findings;
 use rs_host::{DONE, configuration};
-use rs_mrt::{Bounds, FileReading, IoWriter, Source, Tail};
-use rs_notes::Outlines;
+use rs_mrt::{FileReading, IoWriter, Source};
+use rs_notes::{Findings, outlines_for};
 use rs_options::{Options, Strictness};
 use rs_program::{
-    Cleared, Counted, Ended, FolderOutlet, Progress, command_line, end, progress_on, ready_files,
-    run_status,
+    Cleared, Counted, Ended, FolderOutlet, PROGRAM, Progress, command_line, end, progress_on,
+    ready_files, run_status,
 };
 use rs_run::{Ran, run_if};
 use rs_serve::Served;
 use rs_setup::Setup;
-use std::alloc::Global;
 use std::fs::Files;
 use std::io;
 use std::io::{IsTerminal, Stderr};
@@ -88,17 +84,8 @@ where
     let Some(findings) = found else {
         return Ok(DONE);
     };
-    findings.print(rt, ran.is_written);
+    findings.print(rt, PROGRAM, ran.is_written);
     Ok(run_status(strict, findings.is_clean()))
-}
-
-// Outlines of the files, if notes need more than how the sessions end: with `--strict`, and if tails are left out.
-fn outlines_for(alloc: Global, setup: &Setup, bounds: Bounds, strict: Strictness) -> Outlines {
-    if strict == Strictness::Off && bounds.tail == Tail::Strict {
-        Outlines::none(alloc, bounds)
-    } else {
-        Outlines::within(alloc, setup, bounds)
-    }
 }
 
 // Runs over the records of opened files: dumps go to the folder of the options, the report to standard output, if

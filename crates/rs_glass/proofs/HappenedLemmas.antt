@@ -3,6 +3,7 @@ use Rattle.std.proofs.Common.{◌≡◌, ◌∙◌, sym, ap, subst, refl, ℕ, �
 use Rattle.std.proofs.Common.{append_assoc, length, length-append, arith, inl, inr}
 use Rattle.std.specs.Prelude.{slice_get}
 use Rattle.std.proofs.lemmas.List.{append-nil, map-append}
+use Rattle.rs_mrt.proofs.PushedLemmas.{at-pushed}
 use Rattle.rs_mrt.specs.Record.{MrtRecord}
 use Rattle.rs_choice.specs.Plan.{Plan}
 use Rattle.rs_session.specs.Change.{Change}
@@ -20,7 +21,7 @@ use Rattle.rs_glass.specs.declared.listing.Listing.{Listing}
 use Rattle.rs_glass.specs.declared.moment.Moment.{Moment}
 use Rattle.rs_glass.specs.declared.question.Question.{Question}
 use Rattle.rs_glass.specs.declared.recording.Recording.{Recording}
-use Rattle.rs_glass.proofs.ListLemmas.{at-pushed, each_behind-more}
+use Rattle.rs_glass.proofs.ListLemmas.{each_behind-more}
 use Rattle.rs_glass.proofs.MomentLemmas.{counts_at-more}
 
 -- ---- one file

@@ -1,11 +1,12 @@
 -- Lists that grow by one at a time, place by place.
-use Rattle.std.proofs.Common.{◌≡◌, ℕ, zero, suc, ◌<◌, ◌+◌, List, [], ◌∷◌, ◌++◌, Option, Some, length, refl, sym, ap, subst, ◌∙◌, arith, inl, inr}
+use Rattle.std.proofs.Common.{◌≡◌, ℕ, zero, suc, ◌<◌, ◌+◌, List, [], ◌∷◌, ◌++◌, Option, Some, length, sym, ap, subst, ◌∙◌, arith, inl, inr}
 use Rattle.std.proofs.Common.{get_or, append_assoc}
 use Rattle.std.proofs.lemmas.List.{append-nil}
 use Rattle.std.proofs.lemmas.Option.{slice_get_within}
-use Rattle.std.specs.Prelude.{◌⊎◌, slice_get}
+use Rattle.std.specs.Prelude.{slice_get}
 use Rattle.std.specs.List.{enumerate_from}
 use Rattle.rs_update.specs.IpPrefix.{IpPrefix}
+use Rattle.rs_mrt.proofs.PushedLemmas.{at-pushed}
 use Rattle.rs_mrt.specs.Record.{MrtRecord}
 use Rattle.rs_session.specs.Stage.{Comes}
 use Rattle.rs_choice.specs.Plan.{Peer, Plan, id_of}
@@ -19,17 +20,6 @@ use Rattle.rs_glass.specs.declared.fault.GlassFault.{GlassFault}
 use Rattle.rs_glass.specs.declared.fault.GlassFault.TheVariants.{Memory, Read}
 use Rattle.rs_glass.specs.declared.question.Question.{Question}
 use Rattle.rs_glass.specs.declared.said.Said.{Said}
-
--- what stands at a place of a list with one more: what stood there, or the last one
-pub at-pushed : {X : Type 0} (xs : List X) (x y : X) (n : ℕ) → slice_get (xs ++ x ∷ []) n ≡ Some y → (slice_get xs n ≡ Some y)
-    ⊎ ((n ≡ length xs) × (x ≡ y))
-at-pushed [] x y zero e = inr (refl, cc)
-at-pushed [] x y (suc n) e = absurd cc
-at-pushed (z ∷ zs) x y zero e = inl e
-at-pushed (z ∷ zs) x y (suc n) e = elim (at-pushed zs x y n e) [
-  | inl there ↦ inl there
-  | inr last ↦ inr (ap suc last.0, last.1)
-]
 
 -- a place and what stands there, of a list whose places are numbered
 pub at-enumerated_from : {X : Type 0} (from : ℕ) (xs : List X) (place : ℕ) (p : ℕ × X) → place < length (enumerate_from from xs)

@@ -2,6 +2,7 @@
 use Rattle.std.proofs.Common.{◌≡◌, ◌≢◌, ℕ, ◌<◌, ◌+◌, List, [], ◌∷◌, ◌++◌, Option, Some, length, sym, ap, subst, ◌∙◌, arith, inl, inr}
 use Rattle.std.specs.Prelude.{IfOk, IfErr, Result, Ok, Err, slice_get}
 use Rattle.std.proofs.lemmas.Option.{slice_get_within}
+use Rattle.rs_mrt.proofs.PushedLemmas.{at-pushed}
 use Rattle.rs_mrt.specs.Record.{MrtRecord}
 use Rattle.rs_session.specs.Stage.{Comes}
 use Rattle.rs_types.specs.declared.peer_id.PeerId.{PeerId}
@@ -16,7 +17,7 @@ use Rattle.rs_glass.specs.declared.hearing.Heard.{Heard}
 use Rattle.rs_glass.specs.declared.recording.Recording.{Recording}
 use Rattle.rs_glass.specs.declared.question.Question.{Question}
 use Rattle.rs_glass.specs.declared.said.Said.{Said}
-use Rattle.rs_glass.proofs.ListLemmas.{at-pushed, fault-among}
+use Rattle.rs_glass.proofs.ListLemmas.{fault-among}
 
 module _ {S : Type 0} (plan : Plan) (sources : List S) where
   pub recorded-none : AreRecordings plan sources []

@@ -7,10 +7,7 @@ ghost use Rattle.rs_mrt.specs.Record.{record_of};
 ghost use Rattle.rs_glass.specs.Microseconds.{microseconds_in};
 
 use byteorder::{BigEndian, ByteOrder};
-use rs_mrt::{BGP4MP_ET, Record};
-
-// How many octets of microseconds a BGP4MP_ET body begins with.
-const MICROSECONDS_LEN: usize = 4;
+use rs_mrt::{BGP4MP_ET, MICROSECONDS_LEN, Record};
 
 // How many microseconds a second has.
 pub(crate) const SECOND: u32 = 1_000_000;

@@ -3,7 +3,8 @@ use Rattle.std.specs.Prelude.{ℕ, ◌+◌, ◌==◌, ◌&&◌, nat_le, nat_lt, 
 use Rattle.std.specs.Prelude.{drop, slice_get, Option, Some, None, Result, Ok, Err}
 use Rattle.std.specs.Option.{option_and_then}
 use Rattle.byteorder.specs.Endian.{big_number}
-use Rattle.rs_mrt.specs.Entry.{Meaning, Message, State, Other, entry_of, message_place, front_len, family_ipv4}
+use Rattle.rs_mrt.specs.Entry.{Meaning, Message, State, Other, entry_of, established, message_place, front_len}
+use Rattle.rs_mrt.specs.Entry.{family_ipv4}
 use Rattle.rs_mrt.specs.Record.{MrtRecord, header_len}
 use Rattle.rs_mrt.specs.declared.fault.MrtFault.{MrtFault}
 use Rattle.rs_update.specs.Message.{MessageContent, IsOpen, IsUpdate, IsTreated, IsNotification, IsKeepAlive}
@@ -79,12 +80,12 @@ news_at depths.Outline octets = news_of_kind octets (kind_of_type (type_in octet
 
 -- ---- a change of state
 
--- a session comes up with a change to Established, state 6, and goes down with a change from Established (RFC 6396,
--- section 4.4.1)
+-- a session comes up with a change to Established, and goes down with a change from Established (RFC 6396, section
+-- 4.4.1)
 abbrev pub news_of_states : ℕ → ℕ → News
 news_of_states old new =
-    if (new == 6) && not (old == 6) then news.Up
-    else if (old == 6) && not (new == 6) then news.Down
+    if (new == established) && not (old == established) then news.Up
+    else if (old == established) && not (new == established) then news.Down
     else news.State
 
 -- ---- a record

@@ -15,7 +15,7 @@ use crate::depth::Depth;
 use crate::kind::{Kind, MESSAGE, session_fields};
 use crate::opening::{four_octet_as, identifier};
 use byteorder::{BigEndian, ByteOrder};
-use rs_mrt::{AFI_IPV4, Entry, FRONT_LEN, HEADER_LEN, Record, entry};
+use rs_mrt::{AFI_IPV4, ESTABLISHED, Entry, FRONT_LEN, HEADER_LEN, Record, entry};
 use rs_types::PeerId;
 use rs_update::{Message, MessageFault, Update, read_message};
 use std::alloc::{AllocError, Global};
@@ -72,9 +72,6 @@ pub enum News {
     /// It sent an OPEN with this BGP Identifier, in a record of a session with two-octet AS numbers.
     TwoOctetOpen(u32),
 }
-
-// State 6: the session is up (RFC 6396, section 4.4.1).
-const ESTABLISHED: u16 = 6;
 
 // The AS number that stands for one that two octets can't hold (RFC 6793, section 9).
 const AS_TRANS: u16 = 23456;

@@ -10,7 +10,7 @@ ghost use Rattle.rs_mrt.specs.Record.{record_of};
 ghost use Rattle.rs_inventory.specs.Kind.{fields_of, is_ipv6, kind_name, place_of, session_kind, unread_kind};
 
 use byteorder::{BigEndian, ByteOrder};
-use rs_mrt::{BGP4MP, BGP4MP_ET, MESSAGE_AS4, Record, STATE_CHANGE_AS4};
+use rs_mrt::{BGP4MP, BGP4MP_ET, MESSAGE_AS4, MICROSECONDS_LEN, Record, STATE_CHANGE_AS4};
 
 /// What kind of record it is.
 #[derive(Clone, Copy, Debug, PartialEq, Eq)]
@@ -66,9 +66,6 @@ const AFI_IPV6: u16 = 2;
 const FAMILY_AT: usize = 10;
 
 const FAMILY_END: usize = 12;
-
-// How many octets of microseconds a BGP4MP_ET body begins with (RFC 6396, section 3).
-const MICROSECONDS_LEN: usize = 4;
 
 impl Kind {
     /// All kinds, in the order in which they are listed.

@@ -72,20 +72,20 @@ impl<'a, R: Read> Outlined<'a, R> {
         &self.source
     }
 
-    // Takes the record that is shown. If memory is refused, nothing is known from then on.
+    // Takes the record that is shown, if an outline is made; else it isn't looked at. If memory is refused, nothing is
+    // known from then on.
     fn take_shown(&mut self)
         ensures takes { TakesShown self.old.server self.old.gathered self.old.source.shown self.new.gathered }
         ensures same { self.new ≡ record self.old { gathered = self.new.gathered } }
     {
+        let Some(outline) = &mut self.outline else {
+            return;
+        };
         let Some(record) = self.source.shown() else {
             self.outline = None;
             return;
         };
-        let taken = match &mut self.outline {
-            Some(outline) => outline.take(self.alloc, &record, self.server),
-            None => return,
-        };
-        if taken.is_err() {
+        if outline.take(self.alloc, &record, self.server).is_err() {
             self.outline = None;
         }
     }

@@ -6,7 +6,7 @@
 //! (RFC 8050, section 4) doesn't count. Large communities count only in an UPDATE that has NLRI.
 
 use byteorder::{BigEndian, ByteOrder};
-use rs_mrt::{AFI_IPV4, BGP4MP, BGP4MP_ET, MESSAGE_AS4, Record};
+use rs_mrt::{AFI_IPV4, BGP4MP, BGP4MP_ET, MESSAGE_AS4, MICROSECONDS_LEN, Record};
 use rs_types::{PeerId, split_item};
 use std::alloc::{AllocError, Global};
 use std::collections::BTreeMap;
@@ -18,9 +18,6 @@ const MESSAGE: u16 = 1;
 const MESSAGE_ADD_PATH: u16 = 8;
 
 const MESSAGE_AS4_ADD_PATH: u16 = 9;
-
-// How many octets of microseconds a BGP4MP_ET body begins with (RFC 6396, section 3).
-const MICROSECONDS_LEN: usize = 4;
 
 // Where the Address Family, the Peer IP Address and the message stand behind AS numbers of two octets; of four octets
 // they stand four octets behind.

@@ -4,7 +4,7 @@ use Rattle.std.specs.Prelude.{ℕ, Bool, false, not, ◌&&◌, ◌||◌, ◌==�
 use Rattle.std.specs.Prelude.{None, filter_map}
 use Rattle.std.specs.Option.{option_map}
 use Rattle.byteorder.specs.Endian.{big_bytes}
-use Rattle.rs_mrt.specs.Entry.{family_ipv4, subtype_state_change_as4, type_bgp4mp}
+use Rattle.rs_mrt.specs.Entry.{established, family_ipv4, subtype_state_change_as4, type_bgp4mp}
 use Rattle.rs_mrt.specs.Record.{MrtRecord}
 use Rattle.rs_inventory.specs.Course.{Timed, begins, is_loss, is_up, shows_up}
 use Rattle.rs_inventory.specs.Finding.{is_peer, recorder_in}
@@ -91,10 +91,7 @@ before_record f r = record f { up = not (is_lost_before f r) && f.up }
 
 -- ---- the records with the losses inserted
 
--- the state Established, and below, 0, which is not a state (RFC 6396, section 4.4.1)
-abbrev pub established : ℕ
-established = 6
-
+-- the number 0, which is not a state (RFC 6396, section 4.4.1)
 abbrev pub no_state : ℕ
 no_state = 0
 

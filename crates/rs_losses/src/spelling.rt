@@ -5,7 +5,7 @@ ghost use Rattle.rs_losses.specs.Losses.{loss_record};
 
 use crate::losses::Sought;
 use byteorder::{BigEndian, ByteOrder};
-use rs_mrt::{AFI_IPV4, HEADER_LEN};
+use rs_mrt::{AFI_IPV4, ESTABLISHED, HEADER_LEN};
 
 /// How many octets the record has: its header and its body.
 pub(crate) const LOSS_LEN: usize = HEADER_LEN + BODY_LEN;
@@ -22,9 +22,7 @@ const OLD_STATE_AT: usize = 20;
 
 const NEW_STATE_AT: usize = 22;
 
-// The state Established, and 0, which is no state (RFC 6396, section 4.4.1).
-const ESTABLISHED: u16 = 6;
-
+// The number 0, which is no state (RFC 6396, section 4.4.1).
 const NO_STATE: u16 = 0;
 
 /// The body of a record that says that the session was lost.

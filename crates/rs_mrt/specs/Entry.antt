@@ -1,4 +1,4 @@
--- What a record says of a BGP session (RFC 6396, sections 3, 4.4.3, 4.4.4 and 4.5).
+-- What a record says of a BGP session (RFC 6396, sections 3, 4.4.1, 4.4.3, 4.4.4 and 4.5).
 use Rattle.std.specs.Prelude.{◌≡◌, ℕ, ◌+◌, ◌-◌, nat_lt, ◌==◌, ◌&&◌, not, if◌then◌else◌, List, length, take, drop}
 use Rattle.std.specs.Prelude.{Result, Ok, Err}
 use Rattle.byteorder.specs.Endian.{big_number}
@@ -49,6 +49,10 @@ family_ipv4 = 1
 -- how many octets of microseconds there are (section 3)
 abbrev pub microseconds_len : ℕ
 microseconds_len = 4
+
+-- the number of the state Established (section 4.4.1)
+abbrev pub established : ℕ
+established = 6
 
 -- The offsets of the fields of both Subtypes: Peer AS 0, Local AS 4, Interface Index 8, Address Family 10. Peer IP
 -- Address 12, Local IP Address 16; the message or the two states begin at 20.

@@ -34,8 +34,11 @@ pub const AFI_IPV4: u16 = 1;
 /// longest BGP message (RFC 4271, section 4.1).
 pub const FRONT_LEN: usize = 4121;
 
-// How many octets of microseconds a BGP4MP_ET body begins with.
-const MICROSECONDS_LEN: usize = 4;
+/// How many octets of microseconds a BGP4MP_ET body begins with (RFC 6396, section 3).
+pub const MICROSECONDS_LEN: usize = 4;
+
+/// The state Established: the session is up (RFC 6396, section 4.4.1).
+pub const ESTABLISHED: u16 = 6;
 
 // Where fields begin and end.
 const FAMILY_AT: usize = 10;

@@ -5,8 +5,8 @@
 //! `lenient`. Files in pieces: `reader`, `inlet`, `window`, `cut`, `record_reader`. What is written:
 //! `spelling`, `stream`. At last `memory`, `memory_reader`; `laws`.
 //!
-//! Standards: RFC 6396, sections 2 (header), 3 and 4.5 (BGP4MP_ET), 4.4.3 and 4.4.4 (BGP4MP with AS numbers of four
-//! octets).
+//! Standards: RFC 6396, sections 2 (header), 3 and 4.5 (BGP4MP_ET), 4.4.1 (states), 4.4.3 and 4.4.4 (BGP4MP with AS
+//! numbers of four octets).
 #![tactic(auto)]
 
 mod bgp4mp;
@@ -28,7 +28,10 @@ mod spelling;
 mod stream;
 mod window;
 
-pub use bgp4mp::{AFI_IPV4, BGP4MP, BGP4MP_ET, FRONT_LEN, MESSAGE_AS4, STATE_CHANGE_AS4, entry};
+pub use bgp4mp::{
+    AFI_IPV4, BGP4MP, BGP4MP_ET, ESTABLISHED, FRONT_LEN, MESSAGE_AS4, MICROSECONDS_LEN,
+    STATE_CHANGE_AS4, entry,
+};
 pub use bounds::{Bounds, FileReading, Tail};
 pub use cut::Cut;
 pub use fault::{MrtFault, SourceFault};
@@ -44,7 +47,7 @@ pub use meaning::Entry;
 pub use memory::{Limits, MemoryWriter};
 pub use memory_reader::{MemoryReader, ReadLimits};
 pub use reader::{IoReader, Read};
-pub use record::{HEADER_LEN, Record, Records};
+pub use record::{HEADER_LEN, KIND_AT, LENGTH_AT, Record, Records, SUBTYPE_AT};
 pub use record_reader::RecordReader;
 pub use source::Source;
 pub use spelling::write_header;

@@ -13,15 +13,17 @@ use crate::source::Source;
 use byteorder::{BigEndian, ByteOrder};
 use std::marker::Model;
 
-/// How many octets the header of a record has: Timestamp (4), Type (2), Subtype (2), Length (4).
+/// How many octets the header of a record has (RFC 6396, section 2): Timestamp 4, Type 2, Subtype 2, Length 4.
 pub const HEADER_LEN: usize = 12;
 
-// Where the fields of the header begin.
-pub(crate) const KIND_AT: usize = 4;
+/// Where the Type begins in the header of a record (RFC 6396, section 2).
+pub const KIND_AT: usize = 4;
 
-pub(crate) const SUBTYPE_AT: usize = 6;
+/// Where the Subtype begins in the header of a record (RFC 6396, section 2).
+pub const SUBTYPE_AT: usize = 6;
 
-pub(crate) const LENGTH_AT: usize = 8;
+/// Where the Length begins in the header of a record (RFC 6396, section 2).
+pub const LENGTH_AT: usize = 8;
 
 /// A record, whose body is a part of the octets that it was read from.
 #[derive(Clone, Copy, Debug, PartialEq, Eq, Drop)]

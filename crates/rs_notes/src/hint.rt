@@ -9,6 +9,7 @@ ghost use Rattle.rs_notes.specs.Hint.{has_bodies, hint_of, is_all, is_known, onl
 
 use crate::format::Format;
 use rs_inventory::{Inventory, Kind, PeerId};
+use rs_mrt::HEADER_LEN;
 
 /// What is noted of a recorded file.
 #[derive(Clone, Copy, Debug, PartialEq, Eq)]
@@ -24,10 +25,7 @@ pub enum Hint {
     },
 }
 
-// How many octets the header of a record has (RFC 6396, section 2). Below, how many the fields before a message have
-// in a session with two-octet AS numbers (RFC 6396, section 4.4.2).
-const HEADER_LEN: u64 = 12;
-
+// How many octets the fields before a message have in a session with two-octet AS numbers (RFC 6396, section 4.4.2).
 const FIELDS_LEN: u64 = 16;
 
 /// What is noted of a peer's recorded file that gave no change but the close. `front` has the first `FRONT_LEN`
@@ -78,7 +76,7 @@ fn has_bodies(held: &Inventory) -> bool
     match held.octets() {
         Some(octets) => held
             .records()
-            .saturating_mul(HEADER_LEN)
+            .saturating_mul(HEADER_LEN as u64)
             .saturating_add(FIELDS_LEN)
             <= octets,
         None => true,

@@ -6,7 +6,7 @@
 //! notes are about: `subject`, `peers`, `contents` (what files hold), `outlines` (how that is known while files are
 //! read), `look` (what a file shows of which nothing was kept). Then the notes: `note` (their texts), `group` (one line
 //! on several peers), `mistakes`, `doubts`, `all_filtered` (which peers left only routes that are filtered),
-//! `import_notes`, `exchange`, `notes`.
+//! `import_notes`, `exchange`, `notes`. Last `findings`: what a run finds that is not clean, notes among that.
 //!
 //! A call that allocates fails if memory is refused.
 #![tactic(auto)]
@@ -15,6 +15,7 @@ mod all_filtered;
 mod contents;
 mod doubts;
 mod exchange;
+mod findings;
 mod format;
 mod group;
 mod hint;
@@ -30,6 +31,7 @@ mod peers;
 mod subject;
 
 pub use contents::{Contents, contents_of, format_at, is_file, read_contents};
+pub use findings::{Findings, outlines_for};
 pub use format::Format;
 pub use hint::{Hint, hint_on};
 pub use import_notes::{BEFORE_IMPORT, add_filtered};

@@ -31,4 +31,4 @@ pub use folder_outlet::FolderOutlet;
 pub use progress::Progress;
 pub use rs_options::{read_command_line, read_words};
 pub use start::{command_line, end, progress_on, ready_files};
-pub use texts::line;
+pub use texts::{PROGRAM, line};

@@ -13,6 +13,7 @@ use Rattle.rs_losses.specs.Losses.{with_losses}
 use Rattle.rs_losses.specs.WithLosses.{ComesFirst, end_within as end_below, within as below}
 use Rattle.rs_losses.specs.WithLosses.{shown_by}
 use Rattle.rs_losses.specs.declared.losses.Sought.{Sought}
+use Rattle.rs_mrt.proofs.PushedLemmas.{at-pushed}
 use Rattle.rs_mrt.specs.Bounds.{end_within, records_until}
 use Rattle.rs_mrt.specs.Entry.{front_of}
 use Rattle.rs_mrt.specs.Leniency.{Leniency}
@@ -40,7 +41,8 @@ use Rattle.rs_table.specs.Content.{TablesContent}
 use Rattle.rs_update.specs.declared.errors.Errors.{Errors}
 use Rattle.rs_patience.proofs.PlaceLemmas.{get-map, some-at}
 use Rattle.rs_run.proofs.EndLemmas.{last-same, reason-is, reason-same}
-use Rattle.rs_run.specs.OverRecords.{end_told, records_read_so, served_of_told, told_in, told_of_files, with_losses_by}
+use Rattle.rs_run.specs.OverRecords.{end_told, records_read_so, served_of_records, served_of_told, told_in, told_of_files}
+use Rattle.rs_run.specs.OverRecords.{with_losses_by}
 use Rattle.rs_run.specs.ReadSo.{AreReadSo, AreShown, IsReadSo, Reading, comes}
 use Rattle.rs_run.specs.SessionEnd.{reason_in}
 
@@ -194,17 +196,6 @@ module _ (errors : Errors) (peer : PeerId) (who : Sought) (file : List ℕ) wher
 
 -- ---- all files
 
--- what stands at a place of a list with one more: what stood there, or the last one
-at-pushed : {X : Type 0} (xs : List X) (x y : X) (n : ℕ) → slice_get (xs ++ x ∷ []) n ≡ Some y → (slice_get xs n ≡ Some y)
-    ⊎ ((n ≡ length xs) × (x ≡ y))
-at-pushed [] x y zero e = inr (refl, cc)
-at-pushed [] x y (suc n) e = absurd cc
-at-pushed (z ∷ zs) x y zero e = inl e
-at-pushed (z ∷ zs) x y (suc n) e = elim (at-pushed zs x y n e) [
-  | inl there ↦ inl there
-  | inr last ↦ inr (ap suc last.0, last.1)
-]
-
 -- the next file has its source too
 pub one-more-read : (reading : FileReading) (whose : List Sought) (files : List (List ℕ)) (sources : List Reading) (source : Reading)
     (here : Sought) (octets : List ℕ) → AreReadSo reading whose files sources
@@ -310,7 +301,7 @@ module _ (errors : Errors) (reading : FileReading) (plan : Plan) (whose : List S
   -- what is served is what the sessions tell of the records that are read
   pub served-of-records : ClosesOnce → length whose ≡ length plan.peers → length files ≡ length plan.peers
       → (served : ServedContent) → IsServedAs plan all served
-      → served ≡ served_of_told plan (told_of_files errors reading plan.peers whose files)
+      → served ≡ served_of_records errors reading plan whose files
   served-of-records once as_whose as_files served so_served =
       let as_many : length all ≡ length plan.peers = is.as_many ∙ count ∙ as_files in
       let ends : served.ends ≡ map end_told all =

@@ -65,6 +65,11 @@ abbrev pub served_of_told : Plan → List Told → ServedContent
 served_of_told plan all =
     record { tables = tables_of plan (map (λ told. told.changes) all); ends = map end_told all }
 
+-- what is served of the records that are read of these files
+abbrev pub served_of_records : Errors → FileReading → Plan → List Sought → List (List ℕ) → ServedContent
+served_of_records errors reading plan whose files =
+    served_of_told plan (told_of_files errors reading plan.peers whose files)
+
 -- the run has kept the dumps of what is served, and its report is that of what is served
 pub record HasDumpsAndReportOfServed (plan : Plan) (time : ℕ) (served : ServedContent) (ran : RunOverOctets)
     : Type 0 where

@@ -5,20 +5,11 @@ use Rattle.std.specs.List.{zip, flat_map}
 use Rattle.rs_choice.specs.Plan.{Peer, Plan}
 use Rattle.rs_serve.specs.declared.ended.PeerEnd.{PeerEnd}
 use Rattle.rs_keep.specs.TableLines.{table_lines}
-use Rattle.rs_change.specs.declared.word.Reason.{Reason}
-use Rattle.rs_change.specs.declared.word.Reason.TheVariants.{EndOfFile, Bgp, Mrt, Memory, Read}
+use Rattle.rs_session.specs.ReasonText.{reason_text}
 use Rattle.rs_table.specs.Content.{TablesContent}
 use Rattle.rs_update.specs.declared.errors.Errors.{Errors}
 use Rattle.rs_run.specs.Recorded.{tables_of_files}
 use Rattle.rs_run.specs.SessionEnd.{ends_of_files}
-
--- the text for a reason why a session closed
-abbrev pub reason_text : Reason → List ℕ
-reason_text EndOfFile = codes "end"
-reason_text (Bgp code subcode) = codes "bgp " ++ (decimal code ++ (codes "/" ++ decimal subcode))
-reason_text (Mrt number) = codes "mrt M" ++ decimal number
-reason_text Memory = codes "memory"
-reason_text Read = codes "read"
 
 -- the line of the report about a peer's session
 abbrev pub peer_line : List ℕ → PeerEnd → List ℕ

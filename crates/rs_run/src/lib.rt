@@ -14,5 +14,4 @@ mod runner;
 
 pub use over_octets::{RunOverOctets, run_over_octets};
 pub use over_records::run_over_records;
-pub use report::ReasonText;
 pub use runner::{Ran, run, run_if};

@@ -2,7 +2,7 @@
 //! what becomes of a record that is cut short, and which losses count.
 
 ghost use Rattle.std.specs.Prelude.{◌≡◌, ◌<◌, ◌≤◌, ◌^◌, All, IfOk, length, map};
-ghost use Rattle.rs_run.specs.OverRecords.{HasDumpsAndReportOfServed, served_of_told, told_of_files};
+ghost use Rattle.rs_run.specs.OverRecords.{HasDumpsAndReportOfServed, served_of_records};
 ghost use Rattle.rs_run.specs.ReadSo.{AreReadSo, IsReadSo, room_of};
 
 use crate::over_octets::RunOverOctets;
@@ -43,8 +43,8 @@ pub fn run_over_records<T: Threads + Wait + Sync>(
     requires ring { (1 ≤ options.now.ring) × (options.now.ring ≤ 65536) }
     requires shards { (1 ≤ options.now.shards) × (options.now.shards ≤ 16) }
     ensures { IfOk result (HasDumpsAndReportOfServed setup.now.plan.value options.now.time
-        (served_of_told setup.now.plan.value (told_of_files options.now.errors reading setup.now.plan.value.peers whose.now
-        (map (λ file. file.now) files.now)))) }
+        (served_of_records options.now.errors reading setup.now.plan.value whose.now
+        (map (λ file. file.now) files.now))) }
 {
     // It tells that a session has one close, its last change, so that the reason of the close is that of the end.
     a_session_closes_once();

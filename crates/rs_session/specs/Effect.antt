@@ -1,7 +1,7 @@
 -- What a record means for the session of one peer (RFC 6396, sections 4.4.3 and 4.4.4; RFC 4271, sections 4.2 to 4.5
 -- and 6).
 use Rattle.std.specs.Prelude.{◌≡◌, ℕ, true, not, ◌&&◌, ◌==◌, List, [], ◌∷◌, Result, Ok, Err, if◌then◌else◌}
-use Rattle.rs_mrt.specs.Entry.{Meaning, Message, State, Other, entry_of}
+use Rattle.rs_mrt.specs.Entry.{Meaning, Message, State, Other, entry_of, established}
 use Rattle.rs_mrt.specs.Fault.{number_of}
 use Rattle.rs_mrt.specs.Record.{MrtRecord}
 use Rattle.rs_mrt.specs.declared.fault.MrtFault.{MrtFault}
@@ -29,13 +29,9 @@ pub data RecordEffect : Type 0 where
 abbrev pub loss : ℕ → RecordEffect
 loss time = Gives (record { time = time; body = Lost } ∷ [])
 
--- the number of the state Established (RFC 6396, section 4.4.1)
-abbrev pub ESTABLISHED : ℕ
-ESTABLISHED = 6
-
 -- The session is lost if its state leaves Established. Other changes of state have no effect (our choice).
 abbrev pub effect_of_state : ℕ → ℕ → ℕ → RecordEffect
-effect_of_state time old new = if (old == ESTABLISHED) && not (new == ESTABLISHED) then loss time else Gives []
+effect_of_state time old new = if (old == established) && not (new == established) then loss time else Gives []
 
 -- why a message at fault ends the session
 abbrev pub reason_of : MessageFault → Reason

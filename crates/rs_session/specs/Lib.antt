@@ -3,6 +3,7 @@ pub mod UpdateChanges  -- what one UPDATE says
 pub mod Effect  -- what one record says
 pub mod FileChanges  -- what all records of a file say
 pub mod Closing  -- where a session closed
+pub mod ReasonText  -- the text of why it closed
 pub mod Given  -- files as readers give them
 pub mod Laws  -- what holds of all of these
 -- How a session is read:

@@ -14,13 +14,10 @@ ghost use Rattle.rs_session.specs.EffectView.{effect_value, IsRecorded};
 
 use crate::pending::Pending;
 use rs_change::Reason;
-use rs_mrt::{Entry, Record, entry};
+use rs_mrt::{ESTABLISHED, Entry, Record, entry};
 use rs_types::PeerId;
 use rs_update::{Errors, Message, MessageFault, read_message_by};
 use std::alloc::{AllocError, Global};
-
-// State 6: the session is up (RFC 6396, section 4.4.1).
-const ESTABLISHED: u16 = 6;
 
 /// What a record says to the session of one peer.
 #[derive(Drop)]

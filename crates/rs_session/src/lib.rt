@@ -5,7 +5,7 @@
 //! - One record: `withdrawn` and `pending` (its changes), `effect` (what it says), `beside` (whether it may be passed
 //!   over if one prefix is asked for).
 //! - One session: `session` (one change after another), `passing` (only those on one prefix), `closing` (where it
-//!   closed).
+//!   closed), `reason_text` (the text of why).
 //! - What holds of the definitions that the contracts cite: `laws`.
 //!
 //! A call that allocates fails if memory is refused.
@@ -17,6 +17,7 @@ mod effect;
 mod laws;
 mod passing;
 mod pending;
+mod reason_text;
 mod session;
 mod withdrawn;
 
@@ -28,6 +29,7 @@ pub use laws::{
     the_front_of_a_record_suffices,
 };
 pub use pending::Pending;
+pub use reason_text::ReasonText;
 pub use rs_change::{Body, Reason, Word};
 pub use rs_types::PeerId;
 pub use session::Session;

@@ -4,7 +4,7 @@ use Rattle.std.specs.Prelude.{◌≡◌, ℕ, ◌+◌, ◌^◌, ◌<◌, ◌≤�
 use Rattle.std.specs.Prelude.{Option, Some, None, replicate, nat_lt, if◌then◌else◌}
 use Rattle.std.specs.List.{flat_map, AllByRecursion}
 use Rattle.byteorder.specs.Endian.{big_bytes}
-use Rattle.rs_mrt.specs.Entry.{type_bgp4mp, subtype_message_as4, subtype_state_change_as4, family_ipv4}
+use Rattle.rs_mrt.specs.Entry.{type_bgp4mp, subtype_message_as4, subtype_state_change_as4, established, family_ipv4}
 use Rattle.rs_mrt.specs.Record.{MrtRecord, header_spelling, record_spelling}
 use Rattle.rs_session.specs.Change.{Change}
 use Rattle.rs_session.specs.UpdateChanges.{announces}
@@ -104,7 +104,7 @@ up_record start = record {
   time = start.time;
   kind = type_bgp4mp;
   subtype = subtype_state_change_as4;
-  body = parties start ++ big_bytes 2 5 ++ big_bytes 2 6;
+  body = parties start ++ big_bytes 2 5 ++ big_bytes 2 established;
 }
 
 -- a message of the peer

@@ -9,7 +9,7 @@ ghost use Rattle.rs_start.specs.Opening.{up_record, update_spelling};
 
 use crate::start::Start;
 use byteorder::{BigEndian, ByteOrder};
-use rs_mrt::{AFI_IPV4, BGP4MP, MESSAGE_AS4, STATE_CHANGE_AS4, write_header};
+use rs_mrt::{AFI_IPV4, BGP4MP, ESTABLISHED, MESSAGE_AS4, STATE_CHANGE_AS4, write_header};
 use rs_update::Prefix;
 use std::alloc::AllocError;
 
@@ -34,10 +34,8 @@ const UPDATE: u8 = 2;
 // How many octets of a record stand before its message or its states.
 const PARTIES_LEN: usize = 20;
 
-// The states of the change (RFC 6396, section 4.4.1).
+// The state before the session is up (RFC 6396, section 4.4.1).
 const OPEN_CONFIRM: u8 = 5;
-
-const ESTABLISHED: u8 = 6;
 
 // How many octets the two states have.
 const STATES_LEN: usize = 4;
@@ -143,7 +141,7 @@ pub(crate) fn spell_up(out: &mut Vec<u8>, start: &Start) -> Result<(), AllocErro
     ensures { OnOk result (out.new.items ≡ out.old.items ++ record_spelling (up_record start.now)) }
 {
     spell_record_head(out, start, STATE_CHANGE_AS4, PARTIES_LEN + STATES_LEN)?;
-    out.extend_from_slice(&[0, OPEN_CONFIRM, 0, ESTABLISHED])?;
+    out.extend_from_slice(&[0, OPEN_CONFIRM, 0, ESTABLISHED as u8])?;
     Ok(())
 }
 

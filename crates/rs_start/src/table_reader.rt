@@ -7,19 +7,12 @@ ghost use Rattle.rs_start.specs.TableReading.{Came, Fills, Reads};
 
 use crate::fault::{Broken, TableFault};
 use byteorder::{BigEndian, ByteOrder};
-use rs_mrt::{HEADER_LEN, Read};
+use rs_mrt::{HEADER_LEN, KIND_AT, LENGTH_AT, Read, SUBTYPE_AT};
 use std::alloc::Global;
 use std::marker::Model;
 
 // How many octets the body of a record has at most.
 const MAX_BODY_LEN: usize = 16_777_216;
-
-// Where the fields of a header begin.
-const KIND_AT: usize = 4;
-
-const SUBTYPE_AT: usize = 6;
-
-const LENGTH_AT: usize = 8;
 
 /// A record of a table, without its body.
 #[derive(Clone, Copy, Debug, PartialEq, Eq, Drop)]

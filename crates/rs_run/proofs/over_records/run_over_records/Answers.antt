@@ -7,7 +7,7 @@ use Rattle.rs_outlet.specs.Outlet as outlet
 use Rattle.rs_outlet.specs.Outlet.{KeptDump}
 use Rattle.rs_serve.specs.Served.{ServedContent}
 use Rattle.rs_run.proofs.RecordsLemmas.{served-of-records}
-use Rattle.rs_run.specs.OverRecords.{served_of_told, told_of_files}
+use Rattle.rs_run.specs.OverRecords.{served_of_records}
 use Rattle.rs_run.specs.Report.{report_of}
 use Rattle.rs_run.proofs.over_records.run_over_records.Goals as goal
 
@@ -22,7 +22,7 @@ returns-in-Ok g c =
     let count : length c.in_ok-sources.sources.items ≡ length files =
     c.in_ok-sources.ensures.as_many ∙ sym (length-map c.args.files.now octets) in
     let over = c.in-Ok.ensures.answer.over in
-    let is : over.0 ≡ served_of_told plan (told_of_files errors c.args.reading plan.peers c.args.whose.now files) =
+    let is : over.0 ≡ served_of_records errors c.args.reading plan c.args.whose.now files =
     served-of-records errors c.args.reading plan c.args.whose.now files c.in_ok-sources.sources.items over.1.0 count
     c.in_ok-sources.ensures.read_so over.1.1 c.a_session_closes_once.ensures c.requires.whose as_files over.0 over.1.2 in
     record {

@@ -1,26 +1,25 @@
 //! What a run finds that is not clean: notes on the recorded files, and sessions that closed before the end of a file.
+//!
+//! Our choice: a run of which it isn't known whether it is clean isn't.
 
-use rs_mrt::{FileReading, Losses, Tail};
-use rs_notes::{
-    Close, Ending, Notes, Outlines, Subject, Telling, add_filtered, notes_of, notes_on, print_texts,
-};
-use rs_options::Strictness;
-use rs_run::ReasonText;
+use crate::import_notes::add_filtered;
+use crate::notes::{Notes, notes_of, notes_on, print_texts};
+use crate::outlines::Outlines;
+use crate::subject::{Close, Ending, Subject, Telling};
+use rs_host::Strictness;
+use rs_mrt::{Bounds, FileReading, Losses, Tail};
 use rs_serve::{PeerEnd, Served};
-use rs_session::{Reason, is_cut_short};
+use rs_session::{Reason, ReasonText, is_cut_short};
 use rs_setup::Setup;
 use std::alloc::{AllocError, Global};
 use std::fs::Files;
-
-// The program's name, as its lines begin.
-const PROGRAM: &str = "route_server";
 
 // How many peers a line names.
 const NAMED: usize = 8;
 
 /// What a run finds that is not clean.
 #[derive(Drop)]
-pub(crate) struct Findings {
+pub struct Findings {
     notes: Notes,
     // The line on the sessions that closed before the end of their files: none if there is no such session, or memory
     // for the line was refused.
@@ -32,7 +31,7 @@ pub(crate) struct Findings {
 impl Findings {
     /// What a run finds that is served so, of files that were read so. Outlines of the files are used if more is asked
     /// for than notes on likely mistakes.
-    pub(crate) fn of<R: AllocGlobal + Files>(
+    pub fn of<R: AllocGlobal + Files>(
         rt: &R,
         setup: &Setup,
         reading: FileReading,
@@ -64,21 +63,43 @@ impl Findings {
 
     /// Whether each session closed at the end of its file, and there is no note. If it isn't known whether there is one,
     /// since memory or a read was refused, it isn't so.
-    pub(crate) fn is_clean(&self) -> bool {
+    pub fn is_clean(&self) -> bool {
         !self.notes.any && self.closed == 0
     }
 
-    /// Prints the notes; if nothing was written, also why.
-    pub(crate) fn print<R: Eprint>(&self, rt: &R, is_written: bool) {
-        print_texts(rt, PROGRAM, &self.notes.texts);
+    /// Prints the notes; if nothing was written, also why. Each line begins with the name of the program.
+    pub fn print<R: Eprint>(&self, rt: &R, program: &str, is_written: bool) {
+        print_texts(rt, program, &self.notes.texts);
         if is_written {
             return;
         }
         if let Some(closes) = &self.closes {
-            let _ = eprintln!(rt; "{PROGRAM}: {closes}");
+            let _ = eprintln!(rt; "{program}: {closes}");
         }
-        let _ = eprintln!(rt; "{PROGRAM}: not clean: no dump and no report is written");
+        let _ = eprintln!(rt; "{program}: not clean: no dump and no report is written");
     }
+}
+
+/// Outlines of the files, if notes need more than how the sessions end: with `--strict`, and if tails are left out.
+pub fn outlines_for(alloc: Global, setup: &Setup, bounds: Bounds, strict: Strictness) -> Outlines {
+    if needs_outlines(telling_by(strict), bounds.tail) {
+        Outlines::within(alloc, setup, bounds)
+    } else {
+        Outlines::none(alloc, bounds)
+    }
+}
+
+// Which notes are wanted of a run that is so strict.
+fn telling_by(strict: Strictness) -> Telling {
+    match strict {
+        Strictness::Off => Telling::Mistakes,
+        _ => Telling::All,
+    }
+}
+
+// Whether these notes need more than how the sessions end, if files may end so.
+fn needs_outlines(telling: Telling, tail: Tail) -> bool {
+    telling == Telling::All || tail != Tail::Strict
 }
 
 // The notes. If only likely mistakes count, and no tail is left out, few files or none are read for them.
@@ -92,11 +113,8 @@ fn notes<R: AllocGlobal + Files>(
     endings: &[Ending],
 ) -> Notes {
     let bounds = reading.bounds;
-    let telling = match strict {
-        Strictness::Off => Telling::Mistakes,
-        _ => Telling::All,
-    };
-    if telling == Telling::Mistakes && bounds.tail == Tail::Strict {
+    let telling = telling_by(strict);
+    if !needs_outlines(telling, bounds.tail) {
         return notes_on(rt, setup, bounds, endings);
     }
     let subject = Subject {
