@@ -70,17 +70,17 @@ pub(crate) fn spans_of(
     let sessions = records.sessions();
     let mut given = 0;
     for place in 0..sessions.len() {
-        let place_behind = place.saturating_add(1);
-        let open = match sessions.get(place_behind) {
+        let open = match sessions.get(place.saturating_add(1)) {
             Some(behind) => (behind.up.unwrap_or(last), End::Unrecorded),
             None => (until, End::Up),
         };
-        let ended = ended_by(&ends.losses, given, &sessions[place..]);
+        let later = sessions.get(place..).unwrap_or(&[]);
+        let ended = ended_by(&ends.losses, given, later);
         if let Some(ended) = ended {
             add_unbegun(&mut spans, &ends.losses, (given, ended), close)?;
             given = ended.saturating_add(1);
         }
-        let how = ended.and_then(|ended| ends.losses.get(ended)?.how);
+        let how = ended.and_then(|ended| how_at(&ends.losses, ended));
         let span = session(sessions[place], first, open, how);
         add_span(&mut spans, span, close)?;
     }
@@ -127,6 +127,11 @@ fn ended_by(losses: &[Lost], from: usize, sessions: &[SessionTimes]) -> Option<u
     None
 }
 
+// How the loss at a place came, if that is known.
+fn how_at(losses: &[Lost], place: usize) -> Option<Loss> {
+    losses.get(place)?.how
+}
+
 // How many of the first of some losses are of this time.
 fn losses_at(losses: &[Lost], time: u32) -> usize {
     let mut count: usize = 0;
@@ -153,10 +158,8 @@ fn sessions_until(sessions: &[SessionTimes], time: u32) -> usize {
 
 // Whether the loss at a place is a change of state right behind a NOTIFICATION: the recorder's side of the same end.
 fn repeats(losses: &[Lost], place: usize) -> bool {
-    if place == 0 {
-        return false;
-    }
-    match (losses.get(place - 1), losses.get(place)) {
+    let before = losses.get(place.saturating_sub(1));
+    match (before, losses.get(place)) {
         (
             Some(
                 Lost {

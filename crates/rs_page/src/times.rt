@@ -33,6 +33,15 @@ pub(crate) struct Times {
     pub(crate) any: bool,
 }
 
+impl Times {
+    // Takes what is known of the next peer.
+    fn take(&mut self, one: PeerTimes, session: PeerSession) -> Result<(), AllocError> {
+        self.peers.push(one)?;
+        self.sessions.push(session)?;
+        Ok(())
+    }
+}
+
 /// What the recording of one peer shows.
 #[derive(Drop)]
 pub(crate) struct PeerTimes {
@@ -69,9 +78,9 @@ pub(crate) fn times_of<R: AllocGlobal + Files>(
             who: sought(&setup.plan, peer),
         };
         let recorded = records_of(contents, path, of);
-        let held = match manner.losses {
-            Losses::Recorded => None,
-            Losses::Inferred => inferred_of(rt, setup, bounds, contents, peer),
+        let held = match (recorded, manner.losses) {
+            (Some(_), Losses::Inferred) => inferred_of(rt, setup, bounds, contents, peer),
+            _ => None,
         };
         let records = match manner.losses {
             Losses::Recorded => recorded,
@@ -81,12 +90,7 @@ pub(crate) fn times_of<R: AllocGlobal + Files>(
             Some(_) => heard(rt, records, path, manner, &mut times.changes)?,
             None => silent(rt.alloc()),
         };
-        times.peers.push(one).map_err(|_| Unanswered::Memory)?;
-        let session = PeerSession::of(records);
-        times
-            .sessions
-            .push(session)
-            .map_err(|_| Unanswered::Memory)?;
+        times.take(one, PeerSession::of(records))?;
     }
     Ok(times)
 }
