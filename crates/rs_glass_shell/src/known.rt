@@ -40,8 +40,8 @@ impl PeerSession {
         again: None,
     };
 
-    // What the records of a peer tell of its session.
-    fn of(records: Option<&PeerRecords>) -> PeerSession {
+    /// What the records of a peer tell of its session.
+    pub fn of(records: Option<&PeerRecords>) -> PeerSession {
         match records {
             Some(records) => PeerSession {
                 down: down_of(records),
@@ -149,7 +149,7 @@ fn recorded_session(setup: &Setup, contents: &[Contents<'_>], peer: usize) -> Pe
     }
 }
 
-// The same with losses inferred: its file is read once more within bounds, unless it is compressed.
+// The same with losses inferred.
 fn inferred_session<R: AllocGlobal + Files>(
     rt: &R,
     setup: &Setup,
@@ -157,15 +157,26 @@ fn inferred_session<R: AllocGlobal + Files>(
     contents: &[Contents<'_>],
     peer: usize,
 ) -> PeerSession {
-    let held = match contents_by(setup, contents, peer) {
+    match &inferred_of(rt, setup, bounds, contents, peer) {
+        Some(held) => PeerSession::of(records_of(setup, peer, held)),
+        None => PeerSession::UNKNOWN,
+    }
+}
+
+/// What the file of a peer holds with the losses of that peer inferred: it is read once more within bounds. None if it
+/// isn't known what the file holds, if it is compressed or can't be read, or if memory is refused.
+pub fn inferred_of<R: AllocGlobal + Files>(
+    rt: &R,
+    setup: &Setup,
+    bounds: Bounds,
+    contents: &[Contents<'_>],
+    peer: usize,
+) -> Option<Inventory> {
+    match contents_by(setup, contents, peer) {
         Some(contents) if contents.held.compression().is_none() && peer < setup.plan.count() => {
             inferred_at(rt, contents.path, bounds, sought(&setup.plan, peer))
         }
         _ => None,
-    };
-    match &held {
-        Some(held) => PeerSession::of(records_of(setup, peer, held)),
-        None => PeerSession::UNKNOWN,
     }
 }
 

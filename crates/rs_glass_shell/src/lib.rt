@@ -34,7 +34,7 @@ pub use built::Built;
 pub use causes::line_with_cause;
 pub use import_fields::hand_rpki;
 pub use import_text::{PatternText, rpki_validity, validity_key, validity_name};
-pub use known::{Down, Known, PeerSession, Whose, known_of, sessions_of};
+pub use known::{Down, Known, PeerSession, Whose, inferred_of, known_of, sessions_of};
 pub use lines::{PROGRAM, line};
 pub use names::{
     PrefixText, add_again, add_down, add_gets, asn_at, downs_text, name_at, name_width, names_text,

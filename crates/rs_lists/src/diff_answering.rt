@@ -3,17 +3,17 @@
 ghost use Rattle.std.specs.Prelude.{◌≡◌, length};
 
 use crate::diff_row::{
-    CHANGES, Sides, change_columns, change_of, diff_columns, hand_count, hand_difference,
+    CHANGES, Side, Sides, change_columns, change_of, diff_columns, hand_count, hand_difference,
 };
 use crate::list_answering::print_rows;
 use rs_choice::Exchange;
 use rs_glass_shell::{
-    Built, Reply, Unanswered, Whose, answer_with, name_at, name_width, peer_named, peer_of_name,
-    served,
+    Built, PeerSession, Reply, Unanswered, Whose, answer_with, name_at, name_width, peer_named,
+    peer_of_name, served, sessions_of,
 };
 use rs_host::{DONE, Unready, configurations, first_unreadable};
 use rs_query::DiffQuery;
-use rs_rows::{Column, RowWriter};
+use rs_rows::{Column, Form, RowWriter};
 use rs_setup::Setup;
 use rs_survey::Differences;
 use rs_table::Tables;
@@ -37,6 +37,13 @@ struct Client<'a> {
     new: Option<usize>,
 }
 
+// The tables of one side, and what is known of the sessions of its peers.
+#[derive(Clone, Copy)]
+struct Left<'a> {
+    tables: &'a Tables,
+    sessions: &'a [PeerSession],
+}
+
 /// Lists where the tables of clients differ; what is answered is the last part of the list, which isn't printed yet.
 pub fn diff<R: AllocGlobal + Files + Threads + Wait + Sync + Print>(
     rt: &R,
@@ -46,20 +53,19 @@ where
     R::File: Send,
 {
     let (old, new) = configurations(rt, &query.old.config, &query.new.config)?;
-    let (after, text, differs) = compared(rt, &old, &new, query)?;
-    let known = after.known(rt, &new, query.new.losses, Whose::Nobody)?;
-    let mut reply = answer_with(text, known.notes);
+    let (text, notes, differs) = compared(rt, &old, &new, query)?;
+    let mut reply = answer_with(text, notes);
     reply.status = if differs { DIFFERS } else { DONE };
     Ok(reply)
 }
 
-// What the files of the new setup left, the last part of the list of two setups, and whether something differs.
+// The last part of the list of two setups, the notes on the files of the new one, and whether something differs.
 fn compared<R: AllocGlobal + Files + Threads + Wait + Sync + Print>(
     rt: &R,
     old: &Setup,
     new: &Setup,
     query: &DiffQuery,
-) -> Result<(Built, String, bool), Unanswered>
+) -> Result<(String, Vec<String>, bool), Unanswered>
 where
     R::File: Send,
     requires old { length old.now.files.items ≡ length old.now.plan.value.peers }
@@ -69,8 +75,40 @@ where
     refuse_unreadable(rt, old, new)?;
     let before = served(rt, old, &query.old)?;
     let after = served(rt, new, &query.new)?;
-    let (text, differs) = listed(rt, before.tables(), after.tables(), &clients, query)?;
-    Ok((after, text, differs))
+    let sessions = old_sessions(rt, old, &before, query)?;
+    let known = after.known(rt, new, query.new.losses, Whose::Nobody)?;
+    let left = Left {
+        tables: before.tables(),
+        sessions: &sessions,
+    };
+    let left_now = Left {
+        tables: after.tables(),
+        sessions: &known.sessions,
+    };
+    let (text, differs) = listed(rt, left, left_now, &clients, query)?;
+    Ok((text, known.notes, differs))
+}
+
+// What is known of the sessions of the old setup's peers, if the answer has a place for it.
+fn old_sessions<R: AllocGlobal + Files>(
+    rt: &R,
+    old: &Setup,
+    before: &Built,
+    query: &DiffQuery,
+) -> Result<Vec<PeerSession>, AllocError> {
+    if query.form != Form::Json || query.count {
+        return Ok(Vec::new(rt.alloc()));
+    }
+    let outlines = before.outlines();
+    let contents = outlines.contents(rt, &old.files);
+    sessions_of(
+        rt,
+        old,
+        outlines,
+        &contents,
+        query.old.losses,
+        Whose::Nobody,
+    )
 }
 
 // Refuses the first recorded file of two setups that isn't there, or that gives its octets only once and is named
@@ -90,15 +128,15 @@ fn refuse_unreadable<R: AllocGlobal + Files>(
     }
 }
 
-// The same, of the tables of both.
+// The last part of the list of two sides, and whether something differs.
 fn listed<R: AllocGlobal + Print>(
     rt: &R,
-    old: &Tables,
-    new: &Tables,
+    old: Left<'_>,
+    new: Left<'_>,
     clients: &[Client<'_>],
     query: &DiffQuery,
 ) -> Result<(String, bool), Unanswered> {
-    let names = name_width(old.plan(), "peer").max(name_width(new.plan(), "peer"));
+    let names = name_width(old.tables.plan(), "peer").max(name_width(new.tables.plan(), "peer"));
     let width = names.max(CLIENT_WIDTH);
     let (rows, counts) = (diff_columns(names, width), change_columns(width));
     let columns: &[Column] = if query.count { &counts } else { &rows };
@@ -115,21 +153,29 @@ fn listed<R: AllocGlobal + Print>(
 fn add_client<R: AllocGlobal + Print>(
     rt: &R,
     rows: &mut RowWriter<'_>,
-    old: &Tables,
-    new: &Tables,
+    old: Left<'_>,
+    new: Left<'_>,
     client: &Client<'_>,
     count: bool,
 ) -> Result<bool, Unanswered> {
     let sides = Sides {
         client: client.name,
-        old: old.plan(),
-        new: new.plan(),
+        old: side_of(old),
+        new: side_of(new),
     };
-    let differences = Differences::new(rt.alloc(), old, client.old, new, client.new)?;
+    let differences = Differences::new(rt.alloc(), old.tables, client.old, new.tables, client.new)?;
     if count {
         return Ok(hand_counts(rows, differences, &sides));
     }
     add_rows(rt, rows, differences, &sides)
+}
+
+// A side, as its rows need it.
+fn side_of(left: Left<'_>) -> Side<'_> {
+    Side {
+        plan: left.tables.plan(),
+        sessions: left.sessions,
+    }
 }
 
 // Adds them.

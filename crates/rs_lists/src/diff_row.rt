@@ -2,7 +2,7 @@
 
 use crate::layout::{ANSWER_WIDTH, AS_WIDTH, PREFIX_WIDTH};
 use rs_choice::Exchange;
-use rs_glass_shell::{PrefixText, hand_route, name_at};
+use rs_glass_shell::{PeerSession, PrefixText, hand_doubt, hand_route, name_at};
 use rs_rows::{Column, Form, RowWriter};
 use rs_survey::Choices;
 use rs_table::Route;
@@ -76,12 +76,19 @@ impl Change {
     }
 }
 
-// The client of differences, and the exchanges of both tables.
+// One side of differences: its exchange, and what is known of the session of each of its peers.
+#[derive(Clone, Copy)]
+pub(crate) struct Side<'a> {
+    pub(crate) plan: &'a Exchange,
+    pub(crate) sessions: &'a [PeerSession],
+}
+
+// The client of differences, and both sides.
 #[derive(Clone, Copy)]
 pub(crate) struct Sides<'a> {
     pub(crate) client: &'a str,
-    pub(crate) old: &'a Exchange,
-    pub(crate) new: &'a Exchange,
+    pub(crate) old: Side<'a>,
+    pub(crate) new: Side<'a>,
 }
 
 // What differs on a prefix.
@@ -90,7 +97,7 @@ pub(crate) fn change_of(sides: &Sides, one: &Choices) -> Change {
         (None, _) => Change::Gained,
         (_, None) => Change::Lost,
         (Some(old), Some(new)) => {
-            if name_at(sides.old, old.peer) == name_at(sides.new, new.peer) {
+            if name_at(sides.old.plan, old.peer) == name_at(sides.new.plan, new.peer) {
                 Change::Attributes
             } else {
                 Change::Peer
@@ -104,17 +111,17 @@ pub(crate) fn hand_difference(rows: &mut RowWriter<'_>, sides: &Sides, one: &Cho
     if rows.form() == Form::Json {
         let alloc = rows.alloc();
         hand_change(rows, "", sides, one);
-        rows.value("old", route_value(alloc, sides.old, &one.before));
-        rows.value("new", route_value(alloc, sides.new, &one.after));
+        rows.value("old", route_value(alloc, &sides.old, &one.before));
+        rows.value("new", route_value(alloc, &sides.new, &one.after));
         return rows.end_row();
     }
     if let Some(route) = &one.before {
         hand_change(rows, "-", sides, one);
-        hand_side(rows, "old", sides.old, route);
+        hand_side(rows, "old", sides.old.plan, route);
     }
     if let Some(route) = &one.after {
         hand_change(rows, "+", sides, one);
-        hand_side(rows, "new", sides.new, route);
+        hand_side(rows, "new", sides.new.plan, route);
     }
 }
 
@@ -139,20 +146,23 @@ fn hand_side(rows: &mut RowWriter<'_>, side: &str, plan: &Exchange, route: &Rout
     rows.end_row();
 }
 
-// A route as a value of JSON: null if there is none.
-fn route_value(
-    alloc: Global,
-    plan: &Exchange,
-    route: &Option<Route<'_>>,
-) -> Result<Value, AllocError> {
+// The route of a side as a value of JSON: null if there is none. If the session of its sender began again behind it, the
+// value says so, as a row of a table does.
+fn route_value(alloc: Global, side: &Side, route: &Option<Route<'_>>) -> Result<Value, AllocError> {
     match route {
         Some(route) => {
             let mut object = RowWriter::object(alloc);
-            hand_route(&mut object, plan, route);
+            hand_route(&mut object, side.plan, route);
+            hand_doubt(&mut object, again_after(side.sessions, route));
             object.into_value()
         }
         None => Ok(Value::Null),
     }
+}
+
+// When the session of a route's sender began again behind the route, if that is known.
+fn again_after(sessions: &[PeerSession], route: &Route) -> Option<u32> {
+    sessions.get(route.peer)?.again_after(route.time)
 }
 
 // Hands over how many differences of one kind a client has.

@@ -10,7 +10,7 @@ use crate::members::members_of;
 use crate::shown::Shown;
 use crate::style::STYLE;
 use crate::times::times_of;
-use rs_glass_shell::{Reply, Unanswered, Whose, check_place, served, sessions_of, write_whole};
+use rs_glass_shell::{Reply, Unanswered, check_place, served, write_whole};
 use rs_host::{DONE, configuration};
 use rs_mrt::Losses;
 use rs_notes::{Subject, Telling, add_filtered, notes_of};
@@ -39,7 +39,6 @@ where
     let (outlines, losses) = (served.outlines(), query.tables.losses);
     let bounds = outlines.bounds();
     let contents = outlines.contents(rt, &setup.files);
-    let sessions = sessions_of(rt, &setup, outlines, &contents, losses, Whose::All)?;
     let times = times_of(rt, &setup, &contents, bounds, &query.tables)?;
     let members = members_of(alloc, &tally, &times)?;
     let subject = Subject {
@@ -60,7 +59,7 @@ where
             tally: &tally,
             times: &times,
             members: &members,
-            sessions: &sessions,
+            sessions: &times.sessions,
             notes: &notes.texts,
         },
     )?;

@@ -29,11 +29,22 @@ pub(crate) struct Span {
     pub(crate) end: End,
 }
 
+/// A loss of a session.
+#[derive(Clone, Copy, Drop)]
+pub(crate) struct Lost {
+    /// When the first change behind the loss before it came; none if none did.
+    pub(crate) since: Option<u32>,
+    /// When the session was lost.
+    pub(crate) time: u32,
+    /// How, if that is known.
+    pub(crate) how: Option<Loss>,
+}
+
 /// What the changes of a peer say of the ends of its sessions.
 #[derive(Drop)]
 pub(crate) struct Ends {
-    /// When sessions were lost, and how.
-    pub(crate) losses: Vec<(u32, Option<Loss>)>,
+    /// Its losses, in order.
+    pub(crate) losses: Vec<Lost>,
     /// When the first change behind the last loss came.
     pub(crate) since: Option<u32>,
     /// When the last session closed before the end of the file, and why. The time is 0 if no record has one: the file
@@ -56,21 +67,24 @@ pub(crate) fn spans_of(
         Some((0, reason)) => Some((last, reason)),
         close => close,
     };
-    let mut earlier: Option<SessionTimes> = None;
-    for times in records.sessions() {
-        if let Some(before) = earlier {
-            let end = (times.up.unwrap_or(last), End::Unrecorded);
-            add_span(&mut spans, session(before, first, end, ends), close)?;
+    let sessions = records.sessions();
+    let mut given = 0;
+    for place in 0..sessions.len() {
+        let open = match sessions.get(place.saturating_add(1)) {
+            Some(behind) => (behind.up.unwrap_or(last), End::Unrecorded),
+            None => (until, End::Up),
+        };
+        let later = sessions.get(place..).unwrap_or(&[]);
+        let ended = ended_by(&ends.losses, given, later);
+        if let Some(ended) = ended {
+            add_unbegun(&mut spans, &ends.losses, (given, ended), close)?;
+            given = ended.saturating_add(1);
         }
-        earlier = Some(*times);
+        let how = ended.and_then(|ended| how_at(&ends.losses, ended));
+        let span = session(sessions[place], first, open, how);
+        add_span(&mut spans, span, close)?;
     }
-    if let Some(before) = earlier {
-        add_span(
-            &mut spans,
-            session(before, first, (until, End::Up), ends),
-            close,
-        )?;
-    }
+    add_unbegun(&mut spans, &ends.losses, (given, ends.losses.len()), close)?;
     match session_without_beginning(records, ends.since, until) {
         Some(span) => add_span(&mut spans, span, close)?,
         None => {}
@@ -78,17 +92,112 @@ pub(crate) fn spans_of(
     Ok(spans)
 }
 
-// A session whose beginning or end is recorded. If its end is not, it has this one.
-fn session(times: SessionTimes, first: u32, (to, end): (u32, End), ends: &Ends) -> Span {
+// A session whose beginning or end is recorded. If it was lost, then in this way. If its end is not recorded, it has this
+// one.
+fn session(times: SessionTimes, first: u32, (to, end): (u32, End), how: Option<Loss>) -> Span {
     let from = times.up.unwrap_or(first);
     match times.down {
         Some(down) => Span {
             from,
             to: down,
-            end: End::Lost(loss_at(&ends.losses, down)),
+            end: End::Lost(how),
         },
         None => Span { from, to, end },
     }
+}
+
+// Which loss ended the first of some sessions, at this place or behind it; none if none is known.
+//
+// Both stand in their order. Of the losses that no session has, within the second of one that a session has, it isn't
+// known on which side of it they stand. A change of state behind a NOTIFICATION is taken for one of them.
+fn ended_by(losses: &[Lost], from: usize, sessions: &[SessionTimes]) -> Option<usize> {
+    let down = sessions.first()?.down?;
+    let mut place = from;
+    for lost in losses.get(from..)? {
+        if lost.time == down {
+            let more = losses_at(losses.get(place..)?, down) > sessions_until(sessions, down);
+            return Some(if more && repeats(losses, place) {
+                place.saturating_add(1)
+            } else {
+                place
+            });
+        }
+        place = place.saturating_add(1);
+    }
+    None
+}
+
+// How the loss at a place came, if that is known.
+fn how_at(losses: &[Lost], place: usize) -> Option<Loss> {
+    losses.get(place)?.how
+}
+
+// How many of the first of some losses are of this time.
+fn losses_at(losses: &[Lost], time: u32) -> usize {
+    let mut count: usize = 0;
+    for lost in losses {
+        if lost.time != time {
+            break;
+        }
+        count = count.saturating_add(1);
+    }
+    count
+}
+
+// How many of the first of some sessions went down at this time.
+fn sessions_until(sessions: &[SessionTimes], time: u32) -> usize {
+    let mut count: usize = 0;
+    for times in sessions {
+        if times.down != Some(time) {
+            break;
+        }
+        count = count.saturating_add(1);
+    }
+    count
+}
+
+// Whether the loss at a place is a change of state right behind a NOTIFICATION: the recorder's side of the same end.
+fn repeats(losses: &[Lost], place: usize) -> bool {
+    let before = losses.get(place.saturating_sub(1));
+    match (before, losses.get(place)) {
+        (
+            Some(
+                Lost {
+                    how: Some(Loss::Notification(_, _)),
+                    ..
+                },
+            ),
+            Some(
+                Lost {
+                    since: None,
+                    how: Some(Loss::State(_)),
+                    ..
+                },
+            ),
+        ) => true,
+        _ => false,
+    }
+}
+
+// Adds the sessions that ended with the losses from one place up to another and that no record begins: each is seen from
+// its first change on.
+fn add_unbegun(
+    spans: &mut Vec<Span>,
+    losses: &[Lost],
+    (from, to): (usize, usize),
+    close: Option<(u32, Reason)>,
+) -> Result<(), AllocError> {
+    for lost in losses.get(from..to).unwrap_or(&[]) {
+        if let Some(since) = lost.since {
+            let span = Span {
+                from: since,
+                to: lost.time,
+                end: End::Lost(lost.how),
+            };
+            add_span(spans, span, close)?;
+        }
+    }
+    Ok(())
 }
 
 // The last session, if no record says when it came up and none when it went down: it has messages behind the last
@@ -123,16 +232,6 @@ fn session_without_beginning(
         }),
         _ => None,
     }
-}
-
-// How the session that went down at a time was lost.
-fn loss_at(losses: &[(u32, Option<Loss>)], down: u32) -> Option<Loss> {
-    for (time, loss) in losses {
-        if *time == down {
-            return *loss;
-        }
-    }
-    None
 }
 
 // Adds a span, cut off if the session closed before it ends, and left out if it closed before it begins.

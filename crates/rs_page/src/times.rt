@@ -1,14 +1,14 @@
 //! What recordings show over time: the sessions of each peer, and how many changes came when.
 //!
-//! Our choices: each file is read once more for that, behind the run that builds the tables. So of a file that gives its
-//! octets only once nothing is shown.
+//! Our choices: the file of each peer is read once more for that, behind the run that builds the tables, and twice if losses
+//! are inferred. So of a file that gives its octets only once nothing is shown.
 
 use crate::changes::Changes;
-use crate::spans::{Ends, Span, spans_of};
+use crate::spans::{Ends, Lost, Span, spans_of};
 use rs_glass::{Loss, loss_of};
-use rs_glass_shell::Unanswered;
+use rs_glass_shell::{PeerSession, Unanswered, inferred_of};
 use rs_host::{Unready, open_file};
-use rs_inventory::{PeerId, PeerRecords};
+use rs_inventory::{Inventory, PeerId, PeerRecords};
 use rs_losses::{Sought, WithLosses};
 use rs_mrt::{Bounds, Lenient, Losses, RecordReader, Source};
 use rs_notes::{Contents, contents_of};
@@ -25,10 +25,21 @@ use std::fs::Files;
 pub(crate) struct Times {
     /// What they show of each peer.
     pub(crate) peers: Vec<PeerTimes>,
+    /// What is known of the session of each peer at the end of what was read.
+    pub(crate) sessions: Vec<PeerSession>,
     /// How many changes came when.
     pub(crate) changes: Changes,
     /// Whether there is any record of a peer.
     pub(crate) any: bool,
+}
+
+impl Times {
+    // Takes what is known of the next peer.
+    fn take(&mut self, one: PeerTimes, session: PeerSession) -> Result<(), AllocError> {
+        self.peers.push(one)?;
+        self.sessions.push(session)?;
+        Ok(())
+    }
 }
 
 /// What the recording of one peer shows.
@@ -53,25 +64,33 @@ pub(crate) fn times_of<R: AllocGlobal + Files>(
     let (first, last) = range_of(setup, contents);
     let mut times = Times {
         peers: Vec::new(rt.alloc()),
+        sessions: Vec::new(rt.alloc()),
         changes: Changes::none(first.unwrap_or(0), last.unwrap_or(0)),
         any: first.is_some(),
     };
     for peer in 0..setup.plan.count().min(setup.files.len()) {
         let path = setup.files[peer].as_str();
         let of = setup.plan.peer(peer).peer_id();
-        let one = match records_of(contents, path, of) {
-            Some(records) => {
-                let manner = Manner {
-                    bounds,
-                    errors: query.errors,
-                    losses: query.losses,
-                    who: sought(&setup.plan, peer),
-                };
-                heard(rt, records, path, manner, &mut times.changes)?
-            }
+        let manner = Manner {
+            bounds,
+            errors: query.errors,
+            losses: query.losses,
+            who: sought(&setup.plan, peer),
+        };
+        let recorded = records_of(contents, path, of);
+        let held = match (recorded, manner.losses) {
+            (Some(_), Losses::Inferred) => inferred_of(rt, setup, bounds, contents, peer),
+            _ => None,
+        };
+        let records = match manner.losses {
+            Losses::Recorded => recorded,
+            Losses::Inferred => records_in(&held, of),
+        };
+        let one = match recorded {
+            Some(_) => heard(rt, records, path, manner, &mut times.changes)?,
             None => silent(rt.alloc()),
         };
-        times.peers.push(one).map_err(|_| Unanswered::Memory)?;
+        times.take(one, PeerSession::of(records))?;
     }
     Ok(times)
 }
@@ -98,6 +117,14 @@ fn silent(alloc: Global) -> PeerTimes {
 // The records of a peer in the file at a path.
 fn records_of<'b>(all: &'b [Contents<'_>], path: &str, peer: PeerId) -> Option<&'b PeerRecords> {
     contents_of(all, path)?.held.peers().get(&peer)
+}
+
+// The records of a peer in what a file holds, if that is known.
+fn records_in(held: &Option<Inventory>, peer: PeerId) -> Option<&PeerRecords> {
+    match held {
+        Some(held) => held.peers().get(&peer),
+        None => None,
+    }
 }
 
 // The time of the first record of all peers, and the latest time of all records of their files, those of others too.
@@ -134,10 +161,11 @@ fn later(one: Option<u32>, other: Option<u32>) -> Option<u32> {
     }
 }
 
-// What the recording of a peer shows; its changes are counted.
+// What the recording of a peer shows; its changes are counted. If it can be read, its records are only unknown if memory
+// was refused.
 fn heard<R: AllocGlobal + Files>(
     rt: &R,
-    records: &PeerRecords,
+    records: Option<&PeerRecords>,
     path: &str,
     manner: Manner,
     changes: &mut Changes,
@@ -156,6 +184,9 @@ fn heard<R: AllocGlobal + Files>(
     if let Some((_, Reason::Read)) = ends.close {
         return Err(Unanswered::from(Unready::by_path(alloc, path)));
     }
+    let Some(records) = records else {
+        return Err(Unanswered::Memory);
+    };
     one.spans = spans_of(alloc, records, &ends, changes.last)?;
     Ok(one)
 }
@@ -211,7 +242,11 @@ fn take_word(
             ends.since = ends.since.or(Some(time));
         }
         Body::Down => {
-            ends.losses.push((time, loss))?;
+            ends.losses.push(Lost {
+                since: ends.since,
+                time,
+                how: loss,
+            })?;
             ends.since = None;
         }
         Body::Close(Reason::EndOfFile) => {}
