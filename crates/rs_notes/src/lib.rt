@@ -6,7 +6,7 @@
 //! notes are about: `subject`, `peers`, `contents` (what files hold), `outlines` (how that is known while files are
 //! read), `look` (what a file shows of which nothing was kept). Then the notes: `note` (their texts), `group` (one line
 //! on several peers), `mistakes`, `doubts`, `all_filtered` (which peers left only routes that are filtered),
-//! `import_notes`, `exchange`, `notes`. Last `findings`: what a run finds that is not clean, notes among that.
+//! `import_notes`, `exchange`, `unconfigured` (peers that the configuration has not), `notes`. Last `findings`: what a run finds that is not clean, notes among that.
 //!
 //! A call that allocates fails if memory is refused.
 #![tactic(auto)]
@@ -29,6 +29,7 @@ mod notes;
 mod outlines;
 mod peers;
 mod subject;
+mod unconfigured;
 
 pub use contents::{Contents, contents_of, format_at, is_file, read_contents};
 pub use findings::{Findings, outlines_for};
@@ -39,3 +40,4 @@ pub use note::{cut_line, note_line};
 pub use notes::{Notes, notes_of, notes_on, print_texts};
 pub use outlines::Outlines;
 pub use subject::{Close, Ending, Subject, Telling};
+pub use unconfigured::add_unconfigured;
