@@ -348,3 +348,27 @@ pub(crate) fn before_place(place: usize, count: usize) -> &'static str {
         ", "
     }
 }
+
+/// The text of the note on two peers whose AS numbers are probably swapped, and on so many more pairs. Behind their
+/// names come their addresses with the AS number of the other, and how many records these have.
+pub(crate) fn swapped_line(
+    alloc: Global,
+    names: (&str, &str),
+    more: usize,
+    crossed: (PeerId, PeerId),
+    records: (u64, u64),
+) -> Result<String, AllocError> {
+    let (one, other) = (whose_text(alloc, crossed.0)?, whose_text(alloc, crossed.1)?);
+    let mut line = format!(in alloc; "peers {} and {}", names.0, names.1)?;
+    if more == 1 {
+        line.push_str(", and 1 more pair")?;
+    } else if more > 1 {
+        write!(line, ", and {more} more pairs")?;
+    }
+    let (of_one, of_other) = records;
+    write!(
+        line,
+        ": no record of them in their files; {one} has {of_one} and {other} has {of_other}: are their AS numbers swapped?"
+    )?;
+    Ok(line)
+}

@@ -46,7 +46,7 @@ where
         setup: &setup,
         bounds,
         endings: None,
-        telling: Telling::All,
+        telling: Telling::Page,
         inferred: losses == Losses::Inferred,
     };
     let mut notes = notes_of(rt, subject, &contents);
