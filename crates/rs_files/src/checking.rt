@@ -19,8 +19,8 @@ use rs_glass_shell::{Reply, Unanswered, served_as_checked};
 use rs_host::{DONE, FAILED, NOT_CLEAN, REFUSED, Unready, configuration_of, read_file};
 use rs_mrt::{Bounds, Losses};
 use rs_notes::{
-    Close, Contents, Ending, Notes, Subject, Telling, add_filtered, contents_of, is_file, notes_of,
-    read_contents,
+    Close, Contents, Ending, Notes, Subject, Telling, add_filtered, add_unconfigured, contents_of,
+    is_file, notes_of, read_contents,
 };
 use rs_query::CheckQuery;
 use rs_setup::{Setup, SetupFault};
@@ -178,6 +178,7 @@ where
     };
     let mut notes = notes_of(rt, subject, files);
     add_import_notes(rt, setup, query, files, &mut notes)?;
+    add_unconfigured(rt.alloc(), setup, files, &mut notes);
     for note in &notes.texts {
         writeln!(text, "{note}")?;
     }

@@ -1,5 +1,5 @@
-//! The notes on what is lawful and yet suspicious in the records of peers. An empty file, and records that are all later
-//! than what is read. Messages that aren't read, and large communities of the server without an effect. A recording that
+//! The notes on what is lawful and yet suspicious in the records of peers. Records that are all later than
+//! what is read. Messages that aren't read, and large communities of the server without an effect. A recording that
 //! begins in mid-session, and a session that began again without a recorded loss. A loss that is recorded with the
 //! address of no peer.
 //!
@@ -11,11 +11,11 @@ use crate::contents::Contents;
 use crate::group::{Detail, Group, Told};
 use crate::lost::{Lost, lost_of};
 use crate::note::{
-    again_line, at_text, empty_text, first_text, inside_line, large_text, lost_text,
-    no_effect_text, unread_text, up_to_text,
+    again_line, at_text, first_text, inside_line, large_text, lost_text, no_effect_text,
+    unread_text, up_to_text,
 };
 use crate::notes::Notes;
-use crate::subject::{Close, Ending, Subject};
+use crate::subject::{Close, Ending, Subject, Telling};
 use rs_choice::PeerSpec;
 use rs_inventory::Unread;
 use std::alloc::{AllocError, Global};
@@ -23,8 +23,7 @@ use std::alloc::{AllocError, Global};
 /// The notes on what is suspicious.
 #[derive(Drop)]
 pub(crate) struct Doubts<'a> {
-    // Peers whose files are empty, and peers whose records are all later than what is read.
-    empty: Group<'a>,
+    // Peers whose records are all later than what is read.
     later: Group<'a>,
     // Peers of which messages aren't read, and peers whose large communities of the server have no effect.
     unread: Group<'a>,
@@ -40,7 +39,6 @@ impl<'a> Doubts<'a> {
     /// No note yet.
     pub(crate) fn none(alloc: Global) -> Doubts<'a> {
         Doubts {
-            empty: Group::none(alloc),
             later: Group::none(alloc),
             unread: Group::none(alloc),
             large: Group::none(alloc),
@@ -48,12 +46,6 @@ impl<'a> Doubts<'a> {
             again: Group::none(alloc),
             lost: Group::none(alloc),
         }
-    }
-
-    /// Takes a peer whose file, at a path, is empty.
-    pub(crate) fn take_empty(&mut self, alloc: Global, spec: &'a PeerSpec, path: &str) {
-        self.empty
-            .add(&spec.name, empty_told(alloc, &spec.name, path));
     }
 
     /// Takes a peer whose records are all later than what is read, which is up to a time: its first one has this time.
@@ -83,7 +75,7 @@ impl<'a> Doubts<'a> {
             self.unread
                 .add(&spec.name, unread_told(alloc, &spec.name, unread));
         }
-        if unread.large > 0 && !plan.counts_large_communities() {
+        if subject.telling == Telling::All && unread.large > 0 && !plan.counts_large_communities() {
             let told = large_told(alloc, &spec.name, plan.local().asn, unread.large);
             self.large.add(&spec.name, told);
         }
@@ -121,7 +113,6 @@ impl<'a> Doubts<'a> {
 
     /// Adds the notes.
     pub(crate) fn add_to(&self, alloc: Global, subject: Subject<'_>, notes: &mut Notes) {
-        notes.add_group(alloc, &self.empty, "their files are empty");
         if let Some(until) = subject.bounds.until {
             notes.add_group_with(alloc, &self.later, up_to_text(alloc, "them", until));
         }
@@ -145,15 +136,6 @@ impl<'a> Doubts<'a> {
             "losses are recorded without their addresses; --losses inferred counts them",
         );
     }
-}
-
-// The note on a peer whose file is empty.
-fn empty_told(alloc: Global, name: &str, path: &str) -> Result<Told, AllocError> {
-    let text = empty_text(alloc, path)?;
-    Ok(Told {
-        line: format!(in alloc; "peer {name}: {text}")?,
-        detail: Detail::Whole(text),
-    })
 }
 
 // The note on a peer whose records are all later than a time.

@@ -3,6 +3,7 @@
 //! Our choices: a line names the first eight peers, and says how many more there are. Of several peers it has a text on
 //! all of them, and behind it the detail of the first one.
 
+use crate::note::before_place;
 use std::alloc::{AllocError, Global};
 
 // How many peers a line names.
@@ -125,7 +126,7 @@ impl<'a> Group<'a> {
     fn whose(&self, alloc: Global) -> Result<String, AllocError> {
         let mut whose = String::from_str(alloc, "peers")?;
         for (place, name) in self.names.iter().enumerate() {
-            let before = self.before(place);
+            let before = before_place(place, self.count);
             write!(whose, "{before}{name}")?;
         }
         let more = self.count.saturating_sub(self.names.len());
@@ -133,16 +134,5 @@ impl<'a> Group<'a> {
             write!(whose, " and {more} more")?;
         }
         Ok(whose)
-    }
-
-    // What stands before the name at a place.
-    fn before(&self, place: usize) -> &'static str {
-        if place == 0 {
-            " "
-        } else if place.saturating_add(1) == self.count {
-            " and "
-        } else {
-            ", "
-        }
     }
 }

@@ -2,11 +2,12 @@
 //! choice.
 //!
 //! Reading order, what may be wrong with a file first: `format` (its format), `hint` (the note on a file without a
-//! record of its peer), `near` (which peer is meant then). `lost` finds a loss with the address of no peer. Then what
-//! notes are about: `subject`, `peers`, `contents` (what files hold), `outlines` (how that is known while files are
-//! read), `look` (what a file shows of which nothing was kept). Then the notes: `note` (their texts), `group` (one line
-//! on several peers), `mistakes`, `doubts`, `all_filtered` (which peers left only routes that are filtered),
-//! `import_notes`, `exchange`, `notes`. Last `findings`: what a run finds that is not clean, notes among that.
+//! record of its peer), `near` (which peer is meant then), `swapped` (two peers with swapped AS numbers). `lost` finds
+//! a loss with the address of no peer. Then what notes are about: `subject`, `peers`, `contents` (what files hold),
+//! `outlines` (how that is known while files are read), `look` (what a file shows of which nothing was kept). Then the
+//! notes: `note` (their texts), `group` (one line on several peers), `mistakes`, `doubts`, `all_filtered` (which peers
+//! left only routes that are filtered), `import_notes`, `exchange`, `unconfigured` (peers that the configuration has
+//! not), `notes`. Last `findings`: what a run finds that is not clean, notes among that.
 //!
 //! A call that allocates fails if memory is refused.
 #![tactic(auto)]
@@ -29,6 +30,8 @@ mod notes;
 mod outlines;
 mod peers;
 mod subject;
+mod swapped;
+mod unconfigured;
 
 pub use contents::{Contents, contents_of, format_at, is_file, read_contents};
 pub use findings::{Findings, outlines_for};
@@ -39,3 +42,4 @@ pub use note::{cut_line, note_line};
 pub use notes::{Notes, notes_of, notes_on, print_texts};
 pub use outlines::Outlines;
 pub use subject::{Close, Ending, Subject, Telling};
+pub use unconfigured::add_unconfigured;

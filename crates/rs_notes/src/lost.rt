@@ -4,12 +4,9 @@
 //! Our choices: the AS number tells whose loss it is, if no other peer of the exchange has it. Of several such losses the
 //! first counts, and only if by the peer's own records its session was up.
 
-use crate::peers::{is_alone, is_configured};
+use crate::peers::{NO_ADDRESS, is_alone, is_configured};
 use rs_inventory::{Inventory, PeerId, PeerRecords};
 use rs_setup::Setup;
-
-// The address of no peer.
-const NO_ADDRESS: u32 = 0;
 
 /// A loss that is recorded with the address of no peer.
 #[derive(Clone, Copy, Debug, PartialEq, Eq)]

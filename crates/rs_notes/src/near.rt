@@ -3,7 +3,7 @@
 //!
 //! Our choice: the file must have records of exactly one such peer, and the exchange none of that address and AS number.
 
-use crate::peers::is_configured;
+use crate::peers::is_stranger;
 use rs_inventory::{Inventory, PeerId};
 use rs_setup::Setup;
 
@@ -23,7 +23,7 @@ pub(crate) fn near_of(setup: &Setup, held: &Inventory, wanted: PeerId) -> Option
     let mut found = None;
     for (peer, records) in held.peers() {
         let peer = *peer;
-        if records.records() == 0 || !is_near(peer, wanted) || is_other(setup, peer) {
+        if records.records() == 0 || !is_near(peer, wanted) || !is_stranger(setup, peer) {
             continue;
         }
         if found.is_some() {
@@ -41,11 +41,4 @@ pub(crate) fn near_of(setup: &Setup, held: &Inventory, wanted: PeerId) -> Option
 // Whether exactly one of address and AS number is equal.
 fn is_near(peer: PeerId, wanted: PeerId) -> bool {
     (peer.asn == wanted.asn) != (peer.address == wanted.address)
-}
-
-// Whether a peer can't be meant: the exchange has it, its records have no address, or that of the server.
-fn is_other(setup: &Setup, peer: PeerId) -> bool {
-    peer.address == 0
-        || peer.address == setup.plan.local().peer_id().address
-        || is_configured(setup, peer)
 }

@@ -292,3 +292,83 @@ pub(crate) fn server_line(
     let path = on_one_line(alloc, path)?;
     format!(in alloc; "no record is of the server {server}; {path} is of {recorder}")
 }
+
+/// The text of the note on a peer of recorded files that no peer of the configuration is, with its records.
+pub(crate) fn unconfigured_line(
+    alloc: Global,
+    peer: PeerId,
+    records: u64,
+) -> Result<String, AllocError> {
+    let (whose, count) = (whose_text(alloc, peer)?, records_text(alloc, records)?);
+    format!(in alloc; "{whose} has {count}; no peer of the configuration has this address and AS")
+}
+
+/// Adds a peer to the line on so many such peers, at a place: the first one with the word for what is counted.
+pub(crate) fn add_counted(
+    alloc: Global,
+    line: &mut String,
+    place: usize,
+    peers: usize,
+    peer: PeerId,
+    records: u64,
+) -> Result<(), AllocError> {
+    let (before, whose) = (before_place(place, peers), whose_text(alloc, peer)?);
+    if place > 0 {
+        write!(line, "{before}{whose} ({records})")?;
+        return Ok(());
+    }
+    let count = records_text(alloc, records)?;
+    write!(line, "{before}{whose} ({count})")?;
+    Ok(())
+}
+
+/// Ends the line on such peers: so many more are not named.
+pub(crate) fn add_unconfigured_end(line: &mut String, more: usize) -> Result<(), AllocError> {
+    if more > 0 {
+        write!(line, " and {more} more")?;
+    }
+    line.push_str(": no peer of the configuration has their addresses and AS numbers")
+}
+
+// How many records there are, in words.
+fn records_text(alloc: Global, records: u64) -> Result<String, AllocError> {
+    if records == 1 {
+        return String::from_str(alloc, "1 record");
+    }
+    format!(in alloc; "{records} records")
+}
+
+/// What stands before the name at a place, if a line is about so many.
+pub(crate) fn before_place(place: usize, count: usize) -> &'static str {
+    if place == 0 {
+        " "
+    } else if place.saturating_add(1) == count {
+        " and "
+    } else {
+        ", "
+    }
+}
+
+/// The text of the note on two peers whose AS numbers are probably swapped, and on so many more pairs. Behind their
+/// names come their addresses with the AS number of the other, and how many records these have.
+pub(crate) fn swapped_line(
+    alloc: Global,
+    names: (&str, &str),
+    more: usize,
+    crossed: (PeerId, PeerId),
+    records: (u64, u64),
+) -> Result<String, AllocError> {
+    let (one, other) = (whose_text(alloc, crossed.0)?, whose_text(alloc, crossed.1)?);
+    let mut line = format!(in alloc; "peers {} and {}", names.0, names.1)?;
+    if more == 1 {
+        line.push_str(", and 1 more pair")?;
+    } else if more > 1 {
+        write!(line, ", and {more} more pairs")?;
+    }
+    let (of_one, of_other) = records;
+    write!(
+        line,
+        ": no record of them in their files; {one} has {of_one} and {other} has {of_other}: are their AS numbers swapped?"
+    )?;
+    Ok(line)
+}

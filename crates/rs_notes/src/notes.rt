@@ -9,6 +9,7 @@ use crate::contents::{Contents, contents_of, is_file, read_contents};
 use crate::doubts::Doubts;
 use crate::exchange::add_exchange;
 use crate::group::Group;
+use crate::hint::Hint;
 use crate::import_notes::add_empty_lists;
 use crate::look::{Look, look_at};
 use crate::mistakes::{Mistakes, may_be_cut};
@@ -139,9 +140,9 @@ pub fn notes_of<R: AllocGlobal + Files>(
         let path = setup.files[peer].as_str();
         if let Some(contents) = contents_of(all, path) {
             if let Some(ending) = ending_of(subject.endings, peer, &contents.held) {
-                told.take(rt, subject, setup.plan.peer(peer), contents, ending);
+                told.take(rt, subject, all, peer, contents, ending);
             }
-        } else if subject.telling == Telling::All && is_file(rt, path).unwrap_or(true) {
+        } else if subject.telling != Telling::Mistakes && is_file(rt, path).unwrap_or(true) {
             // It is a file, or memory to see that is refused.
             told.is_unknown = true;
         }
@@ -149,7 +150,7 @@ pub fn notes_of<R: AllocGlobal + Files>(
     let mut notes = Notes::none(alloc);
     notes.any = told.is_unknown;
     told.mistakes.add_to(alloc, subject, &mut notes);
-    if subject.telling == Telling::All {
+    if subject.telling != Telling::Mistakes {
         told.doubts.add_to(alloc, subject, &mut notes);
         add_empty_lists(alloc, setup, &mut notes);
         add_exchange(alloc, setup, all, &mut notes);
@@ -176,19 +177,28 @@ impl<'a> ByPeer<'a> {
         }
     }
 
-    // Takes the notes on a peer, whose session ended so.
+    // Takes the notes on the peer of a number, whose session ended so.
     fn take<R: AllocGlobal + Files>(
         &mut self,
         rt: &R,
         subject: Subject<'a>,
-        spec: &'a PeerSpec,
+        all: &[Contents<'_>],
+        peer: usize,
         contents: &Contents<'a>,
         ending: Ending,
     ) {
         let alloc = rt.alloc();
+        let setup = subject.setup;
+        if peer >= setup.plan.count() {
+            return;
+        }
+        let spec = setup.plan.peer(peer);
         if ending.changes == CLOSE_ALONE {
             let look = look_at(rt, subject, spec, contents);
-            self.take_look(alloc, subject, spec, contents.path, look);
+            let is_swapped = is_of_others(look) && self.mistakes.swapped.take(setup, all, peer);
+            if !is_swapped {
+                self.take_look(alloc, subject, spec, contents.path, look);
+            }
             if let Look::Wrong(_, _) = look {
                 return;
             }
@@ -218,11 +228,19 @@ impl<'a> ByPeer<'a> {
                 self.doubts
                     .take_later(alloc, spec, subject.bounds.until, first)
             }
-            Look::Empty => self.doubts.take_empty(alloc, spec, path),
+            Look::Empty if subject.telling != Telling::Mistakes => {
+                self.mistakes.take_empty(alloc, spec, path)
+            }
+            Look::Empty => {}
             Look::Unknown => self.is_unknown = true,
             Look::Plain => {}
         }
     }
+}
+
+// Whether a file has records, and all of them are of others.
+fn is_of_others(look: Look) -> bool {
+    matches!(look, Look::Wrong(Hint::NoRecord { .. }, _))
 }
 
 // How the session of a peer ended, if something may be noted of it.

@@ -30,6 +30,8 @@ pub enum Telling {
     Mistakes,
     /// All: those on what is lawful and yet suspicious, too.
     All,
+    /// Those of a page, which is for management: all but that on large communities without an effect.
+    Page,
 }
 
 /// What notes are about.

@@ -13,7 +13,7 @@ use crate::times::times_of;
 use rs_glass_shell::{Reply, Unanswered, check_place, served, write_whole};
 use rs_host::{DONE, configuration};
 use rs_mrt::Losses;
-use rs_notes::{Subject, Telling, add_filtered, notes_of};
+use rs_notes::{Subject, Telling, add_filtered, add_unconfigured, notes_of};
 use rs_picture::PALETTE;
 use rs_query::PageQuery;
 use rs_survey::summary_on_threads;
@@ -45,11 +45,12 @@ where
         setup: &setup,
         bounds,
         endings: None,
-        telling: Telling::All,
+        telling: Telling::Page,
         inferred: losses == Losses::Inferred,
     };
     let mut notes = notes_of(rt, subject, &contents);
     add_filtered(alloc, served.tables(), &mut notes);
+    add_unconfigured(alloc, &setup, &contents, &mut notes);
     let text = page_text(
         alloc,
         &Shown {
