@@ -13,7 +13,7 @@ use Rattle.rs_session.specs.Stage.{Comes}
 use Rattle.rs_session.specs.Told.{MayTell}
 use Rattle.rs_types.specs.declared.peer_id.PeerId.{PeerId}
 use Rattle.rs_change.specs.declared.word.Reason.{Reason}
-use Rattle.rs_choice.specs.Plan.{Peer, Plan}
+use Rattle.rs_choice.specs.Plan.{Peer, Plan, id_of}
 use Rattle.rs_table.specs.Content.{TablesContent, rib_of}
 use Rattle.rs_table.specs.Left.{Leaves, RouteLeft, Routes}
 use Rattle.rs_explain.specs.LastSaid.{IsSaidLast}
