@@ -7,8 +7,8 @@
 //!        plain walk ALL PEERS              one thread looks for one prefix, as `why` does, in the file of all
 //!        plain walkmany FILE..             the same in a file for each peer
 //!
-//! BATCH is how many octets a batch has at most. All modes print the same line for each peer of the generator's files.
-//! The first three agree on it, and so do the last two. The last line counts the records of others.
+//! BATCH is how many octets a batch has at most. Each mode prints a line for each peer of the generator's files. The
+//! first three modes print the same, and so do the last two. A last line counts the records of others.
 #[allow(dead_code)]
 #[path = "../exchange/plain/ring.rs"]
 mod ring;
@@ -171,7 +171,8 @@ impl Tally {
     }
 }
 
-// The whole session of a peer. A session that closes early reads on, so that nobody waits for it.
+// The whole session of a peer. None closes early here. A real worker whose session has closed goes on taking records,
+// so that nobody waits for it.
 fn session(source: &mut impl Source, peer: usize) -> io::Result<Tally> {
     let mut tally = Tally::default();
     while source.advance()? {
@@ -228,6 +229,7 @@ impl Batch {
 }
 
 // What wakes a thread that waits at a ring, as a parker does: it is given behind each item, and taken in each sleep.
+// Sleeps of `rs_patience` instead make the threads wait for one another: with small batches they took 50 times as long.
 #[derive(Default)]
 struct Token(Mutex<bool>, Condvar);
 
@@ -366,7 +368,7 @@ fn ends(batch_len: usize) -> (Lane, Handed) {
     (lane, Handed { reading: Batch::default(), shown: 0, start: 0, stop: 0, full, empty: to_reader })
 }
 
-// Which peer has a name. By records of all peers in turn any look-up costs the same: this one takes no hash.
+// Which peer has a name. A table of hashes and a memory of the last peer were measured: they cost about the same.
 struct Peers(Vec<(u64, usize)>);
 
 impl Peers {
