@@ -229,7 +229,7 @@ impl Batch {
 }
 
 // What wakes a thread that waits at a ring, as a parker does: it is given behind each item, and taken in each sleep.
-// Sleeps of `rs_patience` instead make the threads wait for one another: with small batches they took 50 times as long.
+// With sleeps of `rs_patience` instead, the threads wait for one another: small batches took 30 times as long or more.
 #[derive(Default)]
 struct Token(Mutex<bool>, Condvar);
 
