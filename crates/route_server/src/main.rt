@@ -9,13 +9,14 @@
 ghost use Rattle.std.specs.Prelude.{◌≡◌, ◌≤◌, ◌^◌, All, Some, IfErr, length};
 ghost use Rattle.rs_program.specs.Texts.{CanTell};
 
-use rs_host::{DONE, configuration};
+use rs_host::{DONE, Reached, configuration};
 use rs_mrt::{FileReading, IoWriter, Source};
 use rs_notes::{Findings, outlines_for};
+use rs_opening::Beside;
 use rs_options::{Options, Strictness};
 use rs_program::{
-    Cleared, Counted, Ended, FolderOutlet, PROGRAM, Progress, command_line, end, progress_on,
-    ready_files, run_status,
+    Cleared, Counted, Ended, FolderOutlet, PROGRAM, Progress, command_line, end, ended_by,
+    progress_on, ready_files, run_status,
 };
 use rs_run::{Ran, run_if};
 use rs_serve::Served;
@@ -70,12 +71,17 @@ where
     requires shards { (1 ≤ options.now.shards) × (options.now.shards ≤ 16) }
     ensures { IfErr result (λ ended. CanTell ended (Some setup.entry) (Some options.entry)) }
 {
-    let progress = progress_on(rt, terminal, &setup.files);
+    let progress = progress_on(rt, terminal, setup);
     let outlines = outlines_for(rt.alloc(), setup, reading.bounds, strict);
-    let counted = |file| Counted::new(file, &progress);
-    let files = ready_files(rt, setup, options, reading, counted, outlines.slots())?;
+    let reached = Reached::first_of_each(rt.alloc(), setup)?;
+    let counted = |octets| Counted::new(octets, &progress);
+    let beside = Beside {
+        outlines: outlines.slots(),
+        reached: &reached,
+    };
+    let files = ready_files(rt, setup, options, reading, counted, beside)?;
     let mut found = None;
-    let ran = run_over(rt, setup, options, files, &progress, |served| {
+    let ran = run_over(rt, setup, options, files, &reached, &progress, |served| {
         let findings = Findings::of(rt, setup, reading, strict, &outlines, served);
         let is_wanted = findings.is_clean() || strict != Strictness::BeforeWriting;
         found = Some(findings);
@@ -89,7 +95,7 @@ where
 }
 
 // Runs over the records of opened files: dumps go to the folder of the options, the report to standard output, if
-// `is_wanted` says so by what is served.
+// `is_wanted` says so by what is served. The sources are over recordings that were read so far.
 fn run_over<
     R: AllocGlobal + Files + Print + Threads + Wait + Sync,
     S: Source + Send + Drop,
@@ -99,6 +105,7 @@ fn run_over<
     setup: &Setup,
     options: &Options,
     sources: Vec<S>,
+    reached: &[Reached],
     progress: &Progress<Stderr>,
     is_wanted: D,
 ) -> Result<Ran, Ended>
@@ -128,6 +135,6 @@ where
     progress.clear();
     match ran {
         Ok(ran) => Ok(ran),
-        Err(fault) => Err(Ended::Run(fault)),
+        Err(fault) => Err(ended_by(alloc, setup, reached, fault)),
     }
 }

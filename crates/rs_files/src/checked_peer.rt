@@ -11,6 +11,7 @@ use rs_inventory::{Inventory, Kind, PeerId, PeerRecords};
 use rs_notes::{Close, Contents};
 use rs_query::CheckQuery;
 use rs_session::is_cut_short;
+use rs_setup::Recording;
 use rs_update::Errors;
 use std::alloc::AllocError;
 use std::fs::Files;
@@ -21,14 +22,16 @@ pub(crate) fn add_peer<R: AllocGlobal + Files>(
     rt: &R,
     text: &mut String,
     spec: &PeerSpec,
-    path: &str,
+    recording: Recording<'_>,
     contents: Option<&Contents<'_>>,
     query: &CheckQuery,
 ) -> Result<Close, Unanswered> {
     let held = contents.map(|contents| &contents.held);
-    add_records(rt, text, spec, path, held, query)?;
-    match held {
-        Some(held) if may_close(held, spec.peer_id()) => add_close(rt, text, spec, path, query),
+    add_records(rt, text, spec, recording, held, query)?;
+    match contents {
+        Some(contents) if may_close(&contents.held, spec.peer_id()) => {
+            add_close(rt, text, spec, contents, query)
+        }
         _ => Ok(Close::AtEnd),
     }
 }
@@ -38,15 +41,16 @@ fn add_records<R: AllocGlobal + Files>(
     rt: &R,
     text: &mut String,
     spec: &PeerSpec,
-    path: &str,
+    recording: Recording<'_>,
     held: Option<&Inventory>,
     query: &CheckQuery,
 ) -> Result<(), Unready> {
-    let shown = on_one_line(rt.alloc(), path)?;
+    let shown = format!(in rt.alloc(); "{recording}")?;
+    let shown = on_one_line(rt.alloc(), &shown)?;
     let found = match held {
         Some(held) => match held.peers().get(&spec.peer_id()) {
             Some(records) => {
-                let treated = treated_of(rt, spec, path, records, query)?;
+                let treated = treated_of(rt, spec, recording, records, query)?;
                 Found::Records(&shown, records, treated)
             }
             None => Found::NoRecord(&shown),
@@ -60,14 +64,14 @@ fn add_records<R: AllocGlobal + Files>(
 fn treated_of<R: AllocGlobal + Files>(
     rt: &R,
     spec: &PeerSpec,
-    path: &str,
+    recording: Recording<'_>,
     records: &PeerRecords,
     query: &CheckQuery,
 ) -> Result<Option<u64>, Unready> {
     match query.errors {
         Errors::Rfc4271 => Ok(None),
         Errors::Rfc7606 if records.faulty() == 0 => Ok(Some(0)),
-        Errors::Rfc7606 => Ok(Some(treated_at(rt, path, spec.peer_id(), query)?)),
+        Errors::Rfc7606 => Ok(Some(treated_at(rt, recording, spec.peer_id(), query)?)),
     }
 }
 
@@ -82,19 +86,28 @@ fn may_close(held: &Inventory, peer: PeerId) -> bool {
     }
 }
 
-// Adds the line of a peer's session, if the session closes before the end of its file. Answers where it closes.
+// Adds the line of a peer's session, if the session closes before the end of its recording. Answers where it closes. Of
+// several files that one is named in which it does.
 fn add_close<R: AllocGlobal + Files>(
     rt: &R,
     text: &mut String,
     spec: &PeerSpec,
-    path: &str,
+    contents: &Contents<'_>,
     query: &CheckQuery,
 ) -> Result<Close, Unanswered> {
-    let Some(close) = early_close_at(rt, path, spec.peer_id(), query)? else {
+    let recording = contents.recording;
+    let Some(close) = early_close_at(rt, recording, spec.peer_id(), query)? else {
         return Ok(Close::AtEnd);
     };
     let reason = close_text(rt.alloc(), close.reason)?;
-    add_line(text, &spec.name, Found::Closes(&reason, close.octet))?;
+    let place = contents.locate(close.octet);
+    let path = on_one_line(rt.alloc(), place.path)?;
+    let found = if recording.count() > 1 {
+        Found::ClosesIn(&reason, place.octet, &path)
+    } else {
+        Found::Closes(&reason, place.octet)
+    };
+    add_line(text, &spec.name, found)?;
     Ok(if is_cut_short(close.reason) {
         Close::WithinRecord
     } else {

@@ -20,10 +20,10 @@ use rs_host::{DONE, FAILED, NOT_CLEAN, REFUSED, Unready, configuration_of, read_
 use rs_mrt::{Bounds, Losses};
 use rs_notes::{
     Close, Contents, Ending, Notes, Subject, Telling, add_filtered, add_unconfigured, contents_of,
-    is_file, notes_of, read_contents,
+    has_files, notes_of, read_contents,
 };
 use rs_query::CheckQuery;
-use rs_setup::{Setup, SetupFault};
+use rs_setup::{Recording, Setup, SetupFault};
 use std::alloc::{AllocError, Global};
 use std::env::Env;
 use std::fs::Files;
@@ -89,16 +89,16 @@ where
     check_contents(rt, setup, &files, query)
 }
 
-// What the files of a setup hold within bounds, without those that may give their octets only once.
+// What the recordings of a setup hold within bounds, without those that may give their octets only once.
 fn contents_in_full<'a, R: AllocGlobal + Files>(
     rt: &R,
     setup: &'a Setup,
     bounds: Bounds,
 ) -> Result<Vec<Contents<'a>>, Unanswered> {
     let mut files = Vec::new(rt.alloc());
-    for path in &setup.files {
-        if contents_of(&files, path).is_none() && is_file(rt, path)? {
-            let contents = contents_at(rt, setup, path, bounds)?;
+    for recording in setup.recordings(rt.alloc())? {
+        if contents_of(&files, recording).is_none() && has_files(rt, recording)? {
+            let contents = contents_at(rt, setup, recording, bounds)?;
             let Ok(()) = files.push(contents) else {
                 return Err(Unanswered::Memory);
             };
@@ -107,19 +107,24 @@ fn contents_in_full<'a, R: AllocGlobal + Files>(
     Ok(files)
 }
 
-// What the file at a path of a setup holds within bounds. Its messages are read whole, too.
+// What a recording of a setup holds within bounds. Its messages are read whole, too.
 fn contents_at<'a, R: AllocGlobal + Files>(
     rt: &R,
     setup: &Setup,
-    path: &'a str,
+    recording: Recording<'a>,
     bounds: Bounds,
 ) -> Result<Contents<'a>, Unready> {
-    match read_contents(rt, setup, path, bounds) {
+    // What follows is read first, since it names the file that can't be read.
+    let held = inventory_at(rt, recording, bounds)?;
+    match read_contents(rt, setup, recording, bounds) {
         Ok(mut contents) => {
-            contents.held = inventory_at(rt, path, bounds)?;
+            // Of a recording with a compressed file no record is read.
+            if contents.held.compression().is_none() {
+                contents.held = held;
+            }
             Ok(contents)
         }
-        Err(fault) => Err(Unready::by_file(rt.alloc(), fault, path)),
+        Err(fault) => Err(Unready::by_file(rt.alloc(), fault, recording.file)),
     }
 }
 
@@ -138,12 +143,14 @@ where
     let mut text = String::new(rt.alloc());
     add_import(&mut text, &setup.plan)?;
     let mut endings = Vec::new(rt.alloc());
-    for peer in 0..setup.plan.count().min(setup.files.len()) {
-        let (spec, path) = (setup.plan.peer(peer), setup.files[peer].as_str());
-        let contents = contents_of(files, path);
+    for peer in 0..setup.plan.count() {
+        let Some(recording) = setup.recording(peer) else {
+            break;
+        };
+        let (spec, contents) = (setup.plan.peer(peer), contents_of(files, recording));
         let ending = Ending {
             changes: CLOSE_ALONE,
-            close: add_peer(rt, &mut text, spec, path, contents, query)?,
+            close: add_peer(rt, &mut text, spec, recording, contents, query)?,
         };
         endings.push(ending).map_err(|_| Unanswered::Memory)?;
     }
@@ -198,7 +205,7 @@ where
     R::File: Send,
     requires { length setup.now.files.items ≡ length setup.now.plan.value.peers }
 {
-    if !setup.plan.import().is_configured() || !are_in_full(files, &setup.files) {
+    if !setup.plan.import().is_configured() || !are_in_full(files, setup) {
         return Ok(());
     }
     let served = served_as_checked(rt, setup, query)?;
@@ -206,7 +213,10 @@ where
     Ok(())
 }
 
-// Whether the content of each file of these paths is known.
-fn are_in_full(files: &[Contents<'_>], paths: &[String]) -> bool {
-    paths.iter().all(|path| contents_of(files, path).is_some())
+// Whether the content of each recording of a setup is known.
+fn are_in_full(files: &[Contents<'_>], setup: &Setup) -> bool {
+    (0..setup.files.len()).all(|peer| match setup.recording(peer) {
+        Some(recording) => contents_of(files, recording).is_some(),
+        None => false,
+    })
 }

@@ -1,10 +1,11 @@
 //! Where the recorded session of a peer closes before the end of its file, by RFC 4271 or RFC 7606 (docs/MANUAL.md,
 //! "Report and dumps").
 
-use rs_host::{Unready, open_file};
+use rs_host::{Reached, Unready, open_recording};
 use rs_mrt::{Lenient, RecordReader, Source};
 use rs_query::CheckQuery;
 use rs_session::{Body, PeerId, Reason, Session};
+use rs_setup::Recording;
 use std::alloc::AllocError;
 use std::fs::Files;
 
@@ -17,19 +18,20 @@ pub(crate) struct EarlyClose {
     pub(crate) reason: Reason,
 }
 
-/// Where the session of a peer closes before the end of the file at a path; none if it doesn't. The file is read within
-/// the bounds and by the standard that are asked for. Fails with `Unread` if the file can't be read, with `Memory` if
+/// Where the session of a peer closes before the end of a recording; none if it doesn't. The recording is read within the
+/// bounds and by the standard that are asked for. Fails with `Unread` if a file of it can't be read, with `Memory` if
 /// memory is refused.
 pub(crate) fn early_close_at<R: AllocGlobal + Files>(
     rt: &R,
-    path: &str,
+    recording: Recording<'_>,
     peer: PeerId,
     query: &CheckQuery,
 ) -> Result<Option<EarlyClose>, Unready> {
     let alloc = rt.alloc();
-    let records = match open_file(rt, path) {
+    let reached = Reached::first();
+    let records = match open_recording(rt, recording, Some(&reached)) {
         Ok(file) => RecordReader::up_to(file, query.bounds.until),
-        Err(fault) => return Err(Unready::by_file(alloc, fault, path)),
+        Err(fault) => return Err(Unready::by_file(alloc, fault, recording.path(0))),
     };
     let source = Lenient::new(records, query.bounds.tail);
     let mut session = Session::over_by(alloc, source, peer, query.errors);
@@ -37,7 +39,7 @@ pub(crate) fn early_close_at<R: AllocGlobal + Files>(
     let octet = session.source().source().place();
     match reason {
         Reason::EndOfFile => Ok(None),
-        Reason::Read => Err(Unready::by_path(alloc, path)),
+        Reason::Read => Err(Unready::by_path(alloc, reached.path(recording))),
         _ => Ok(Some(EarlyClose { octet, reason })),
     }
 }

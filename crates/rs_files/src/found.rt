@@ -22,6 +22,8 @@ pub(crate) enum Found<'a> {
     /// The session closes before the end of its file, for this reason. Before the record that closes it stand so many
     /// octets.
     Closes(&'a str, u64),
+    /// The same, in the file at this path, of several ones.
+    ClosesIn(&'a str, u64, &'a str),
     /// Import policy asks nothing of the peer's routes.
     Unasked,
     /// The peer has a prefix list with so many entries.
@@ -49,6 +51,12 @@ impl fmt::Display for Found<'_> {
                 write!(
                     f,
                     "the session closes by {reason}, in the record at octet {octet}"
+                )
+            }
+            Found::ClosesIn(reason, octet, path) => {
+                write!(
+                    f,
+                    "the session closes by {reason}, in the record at octet {octet} of {path}"
                 )
             }
             Found::Unasked => f.write_str("import policy asks nothing of it"),

@@ -2,10 +2,11 @@
 //!
 //! Our choice: those behind the close of the session don't count, since a run doesn't read them.
 
-use rs_host::{Unready, open_file};
+use rs_host::{Reached, Unready, open_recording};
 use rs_mrt::{Entry, Lenient, Record, RecordReader, Source, SourceFault, entry};
 use rs_query::CheckQuery;
 use rs_session::PeerId;
+use rs_setup::Recording;
 use rs_update::{Errors, Message, MessageFault, read_message_by};
 use std::alloc::{AllocError, Global};
 use std::fs::Files;
@@ -23,22 +24,23 @@ enum Told {
     Unread,
 }
 
-/// How many UPDATEs of a peer in the file at a path are treated as withdrawn by RFC 7606. The file is read within
-/// the bounds that are asked for. Fails with `Unread` if the file can't be read, with `Memory` if memory is refused.
+/// How many UPDATEs of a peer in a recording are treated as withdrawn by RFC 7606. The recording is read within the bounds
+/// that are asked for. Fails with `Unread` if a file of it can't be read, with `Memory` if memory is refused.
 pub(crate) fn treated_at<R: AllocGlobal + Files>(
     rt: &R,
-    path: &str,
+    recording: Recording<'_>,
     peer: PeerId,
     query: &CheckQuery,
 ) -> Result<u64, Unready> {
     let alloc = rt.alloc();
-    let records = match open_file(rt, path) {
+    let reached = Reached::first();
+    let records = match open_recording(rt, recording, Some(&reached)) {
         Ok(file) => RecordReader::up_to(file, query.bounds.until),
-        Err(fault) => return Err(Unready::by_file(alloc, fault, path)),
+        Err(fault) => return Err(Unready::by_file(alloc, fault, recording.path(0))),
     };
     match count_treated(alloc, Lenient::new(records, query.bounds.tail), peer)? {
         Some(count) => Ok(count),
-        None => Err(Unready::by_path(alloc, path)),
+        None => Err(Unready::by_path(alloc, reached.path(recording))),
     }
 }
 

@@ -2,8 +2,8 @@
 
 use crate::found::{Found, add_line};
 use rs_glass_shell::name_at;
-use rs_host::{first_unreadable, found_at, on_one_line};
-use rs_setup::Setup;
+use rs_host::{UnreadableReason, first_unreadable, found_at, on_one_line};
+use rs_setup::{Recording, Setup};
 use std::alloc::AllocError;
 use std::env;
 use std::env::Env;
@@ -13,25 +13,45 @@ use std::io::ErrorKind;
 // Why a file can't be read that an earlier peer reads.
 const READ_BEFORE: &str = "it gives its octets only once, and an earlier peer reads it";
 
-/// A line for each peer whose file can't be opened. If all can be, one for the first peer whose file gives its
-/// octets only once and is read by an earlier peer.
+// Why a file can't be read that is read before another one of its recording.
+const READ_AGAIN: &str = "it gives its octets only once, and is read before another file";
+
+/// A line for each file of a peer that can't be opened. If all can be, one for the first file that gives its octets only
+/// once, if it is read before another one of its recording, or by an earlier peer.
 pub(crate) fn unreadable_text<R: AllocGlobal + Files + Env>(
     rt: &R,
     setup: &Setup,
 ) -> Result<String, AllocError> {
     let mut text = String::new(rt.alloc());
-    for peer in 0..setup.plan.count().min(setup.files.len()) {
-        let name = &setup.plan.peer(peer).name;
-        add_unopened(rt, &mut text, name, &setup.files[peer])?;
+    let recordings = setup.recordings(rt.alloc())?;
+    for (peer, recording) in recordings.iter().enumerate() {
+        add_unopened_of(rt, &mut text, name_at(&setup.plan, peer), *recording)?;
     }
     if text.is_empty() {
-        if let Some(peer) = first_unreadable(rt, &setup.files)? {
-            let path = on_one_line(rt.alloc(), &setup.files[peer])?;
-            let found = Found::Unreadable(&path, READ_BEFORE);
-            add_line(&mut text, name_at(&setup.plan, peer), found)?;
+        if let Some(file) = first_unreadable(rt, &recordings)? {
+            let path = on_one_line(rt.alloc(), file.path)?;
+            let why = match file.reason {
+                UnreadableReason::Begins => READ_AGAIN,
+                _ => READ_BEFORE,
+            };
+            let found = Found::Unreadable(&path, why);
+            add_line(&mut text, name_at(&setup.plan, file.number), found)?;
         }
     }
     Ok(text)
+}
+
+// Adds why files of a recording can't be opened, if some can't.
+fn add_unopened_of<R: AllocGlobal + Files + Env>(
+    rt: &R,
+    text: &mut String,
+    name: &str,
+    recording: Recording<'_>,
+) -> Result<(), AllocError> {
+    for place in 0..recording.count() {
+        add_unopened(rt, text, name, recording.path(place))?;
+    }
+    Ok(())
 }
 
 // Adds why a file can't be opened, if it can't.

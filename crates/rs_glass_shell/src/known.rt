@@ -4,13 +4,13 @@
 //! Our choices: of a session it is only told that it is down if a recorded change of state or the last record of the peer
 //! shows that. If losses are inferred, the file of a peer is read once more for its session.
 
-use rs_host::open_file;
+use rs_host::open_recording;
 use rs_inventory::{Inventory, PeerRecords, read_outline};
 use rs_losses::{Sought, WithLosses};
 use rs_mrt::{Bounds, Lenient, Losses, RecordReader};
 use rs_notes::{Contents, Outlines, Subject, Telling, contents_of, notes_of};
 use rs_opening::sought;
-use rs_setup::Setup;
+use rs_setup::{Recording, Setup};
 use std::alloc::AllocError;
 use std::fs::Files;
 
@@ -105,7 +105,7 @@ pub fn known_of<R: AllocGlobal + Files>(
     losses: Losses,
     whose: Whose,
 ) -> Result<Known, AllocError> {
-    let contents = outlines.contents(rt, &setup.files);
+    let contents = outlines.contents(rt, setup);
     let subject = Subject {
         setup,
         bounds: outlines.bounds(),
@@ -174,7 +174,7 @@ pub fn inferred_of<R: AllocGlobal + Files>(
 ) -> Option<Inventory> {
     match contents_by(setup, contents, peer) {
         Some(contents) if contents.held.compression().is_none() && peer < setup.plan.count() => {
-            inferred_at(rt, contents.path, bounds, sought(&setup.plan, peer))
+            inferred_at(rt, contents.recording, bounds, sought(&setup.plan, peer))
         }
         _ => None,
     }
@@ -186,18 +186,18 @@ fn contents_by<'b, 'a>(
     contents: &'b [Contents<'a>],
     peer: usize,
 ) -> Option<&'b Contents<'a>> {
-    contents_of(contents, setup.files.get(peer)?)
+    contents_of(contents, setup.recording(peer)?)
 }
 
-// The content of the file at a path within bounds, with the losses of a peer inferred. None if the file can't be read,
-// or if memory is refused.
+// The content of a recording within bounds, with the losses of a peer inferred. None if it can't be read, or if memory
+// is refused.
 fn inferred_at<R: AllocGlobal + Files>(
     rt: &R,
-    path: &str,
+    recording: Recording<'_>,
     bounds: Bounds,
     who: Sought,
 ) -> Option<Inventory> {
-    let records = RecordReader::up_to(open_file(rt, path).ok()?, bounds.until);
+    let records = RecordReader::up_to(open_recording(rt, recording, None).ok()?, bounds.until);
     let whole = Lenient::new(records, bounds.tail);
     let source = WithLosses::new(whole, Losses::Inferred, who);
     read_outline(rt.alloc(), source).ok()

@@ -4,10 +4,10 @@ ghost use Rattle.std.specs.Prelude.{◌≡◌, IfOk, length};
 
 use crate::built::Built;
 use crate::unanswered::Unanswered;
-use rs_host::{Unready, WordsFault};
+use rs_host::{Reached, WordsFault, unread_at};
 use rs_mrt::{FileReading, Losses};
 use rs_notes::Outlines;
-use rs_opening::open_files;
+use rs_opening::{Beside, open_files};
 use rs_query::{CheckQuery, TablesQuery};
 use rs_serve::{FloorRefused, Open, Served, serve_sources};
 use rs_setup::Setup;
@@ -94,15 +94,20 @@ where
         bounds: outlines.bounds(),
         losses: manner.losses,
     };
-    let files = open_files(rt, setup, reading, |file| file, outlines.slots())?;
+    let reached = Reached::first_of_each(alloc, setup)?;
+    let beside = Beside {
+        outlines: outlines.slots(),
+        reached: &reached,
+    };
+    let files = open_files(rt, setup, reading, |octets| octets, beside)?;
     let (shards, errors) = (manner.shards, manner.errors);
     match serve_sources(rt, alloc, &setup.plan, files, RING, shards, errors, &Open) {
         Ok(served) => Ok(served),
         Err(FloorRefused::Memory) => Err(Unanswered::Memory),
-        Err(FloorRefused::Read(peer)) => match setup.files.get(peer) {
-            Some(path) => Err(Unanswered::from(Unready::by_path(alloc, path))),
-            None => Err(Unanswered::Memory),
-        },
+        Err(FloorRefused::Read(peer)) => {
+            let unread = unread_at(alloc, setup, &reached, peer);
+            Err(Unanswered::from(unread))
+        }
         Err(FloorRefused::Unsettled(peer)) => {
             let name = &setup.plan.peer(peer).name;
             Err(Unanswered::Unsettled(String::from_str(alloc, name)?))

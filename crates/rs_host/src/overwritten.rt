@@ -30,6 +30,9 @@ pub fn files_of_setup<R: AllocGlobal + Files>(
 ) -> Result<Vec<FileIdentity>, AllocError> {
     let mut read = files_read(rt, config, &setup.files)?;
     add_files(rt, &mut read, &setup.lists)?;
+    for begin in &setup.begins {
+        add_files(rt, &mut read, begin)?;
+    }
     Ok(read)
 }
 

@@ -1,9 +1,12 @@
-//! A recorded file, which is read in pieces.
+//! Recorded files, which are read in pieces of some size.
 
 ghost use Rattle.std.specs.Prelude.{◌≡◌, IfOk};
 
 use crate::fault::FileFault;
+use crate::joined::Joined;
+use crate::reached::Reached;
 use rs_mrt::IoReader;
+use rs_setup::Recording;
 use std::alloc::Global;
 use std::fs::{File, Files};
 use std::io::{BufReader, Read};
@@ -20,6 +23,18 @@ pub fn open_file<R: AllocGlobal + Files>(rt: &R, path: &str) -> Result<Recorded<
     ensures no_failure { IfOk result (λ file. file.failures ≡ 0) }
 {
     in_pieces(rt.alloc(), open(rt, path)?)
+}
+
+/// Opens a recording, and reads nothing yet. How far the reading comes is noted, if there is a place for that. Fails with
+/// `Unread` if the first file can't be opened, with `Memory` if memory is refused.
+pub fn open_recording<'a, R: AllocGlobal + Files>(
+    rt: &'a R,
+    recording: Recording<'a>,
+    reached: Option<&'a Reached>,
+) -> Result<Recorded<Joined<'a, R>>, FileFault>
+    ensures no_failure { IfOk result (λ file. file.failures ≡ 0) }
+{
+    in_pieces(rt.alloc(), Joined::open(rt, recording, reached)?)
 }
 
 /// Opens the file at a path, and reads nothing yet. Fails with `Unread` if it can't be opened, with `Memory` if

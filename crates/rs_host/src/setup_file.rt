@@ -19,7 +19,7 @@ pub fn configuration<R: AllocGlobal + Files>(rt: &R, path: &str) -> Result<Setup
 {
     let disk = Disk::new(rt);
     let setup = setup_at(&disk, path)?;
-    refuse_again(&disk, &setup.files)?;
+    refuse_again(&disk, &setup)?;
     Ok(setup)
 }
 
@@ -36,8 +36,8 @@ pub fn configurations<R: AllocGlobal + Files>(
     let disk = Disk::new(rt);
     let old = setup_at(&disk, old)?;
     let new = setup_at(&disk, new)?;
-    refuse_again(&disk, &old.files)?;
-    refuse_again(&disk, &new.files)?;
+    refuse_again(&disk, &old)?;
+    refuse_again(&disk, &new)?;
     Ok((old, new))
 }
 
@@ -52,7 +52,7 @@ pub fn configuration_of<R: AllocGlobal + Files>(
     let disk = Disk::new(rt);
     disk.count_as_read(path)?;
     let setup = setup_of(&disk, text)?;
-    refuse_again(&disk, &setup.files)?;
+    refuse_again(&disk, &setup)?;
     Ok(setup)
 }
 
@@ -77,12 +77,23 @@ fn setup_of<R: AllocGlobal + Files>(disk: &Disk<'_, R>, text: &[u8]) -> Result<S
     }
 }
 
-// Refuses the first of these recorded files that was read and gives its octets only once.
+// Refuses the first recorded file of a setup that was read and gives its octets only once.
 fn refuse_again<R: AllocGlobal + Files>(
     disk: &Disk<'_, R>,
-    recorded: &[String],
+    setup: &Setup,
 ) -> Result<(), Unready> {
-    match disk.first_read(recorded)? {
+    for begin in &setup.begins {
+        refuse_read(disk, begin)?;
+    }
+    refuse_read(disk, &setup.files)
+}
+
+// Refuses the first file of these paths that was read and gives its octets only once.
+fn refuse_read<R: AllocGlobal + Files>(
+    disk: &Disk<'_, R>,
+    paths: &[String],
+) -> Result<(), Unready> {
+    match disk.first_read(paths)? {
         Some(path) => Err(Unready::by_path(disk.rt.alloc(), path)),
         None => Ok(()),
     }

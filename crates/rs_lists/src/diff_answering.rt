@@ -100,7 +100,7 @@ fn old_sessions<R: AllocGlobal + Files>(
         return Ok(Vec::new(rt.alloc()));
     }
     let outlines = before.outlines();
-    let contents = outlines.contents(rt, &old.files);
+    let contents = outlines.contents(rt, old);
     sessions_of(
         rt,
         old,
@@ -118,12 +118,12 @@ fn refuse_unreadable<R: AllocGlobal + Files>(
     old: &Setup,
     new: &Setup,
 ) -> Result<(), Unready> {
-    let mut paths = Vec::new(rt.alloc());
-    for path in old.files.iter().chain(new.files.iter()) {
-        paths.push(path.clone()?).map_err(|_| Unready::Memory)?;
+    let mut recordings = old.recordings(rt.alloc())?;
+    for recording in new.recordings(rt.alloc())? {
+        recordings.push(recording).map_err(|_| Unready::Memory)?;
     }
-    match first_unreadable(rt, &paths)? {
-        Some(place) => Err(Unready::by_path(rt.alloc(), &paths[place])),
+    match first_unreadable(rt, &recordings)? {
+        Some(file) => Err(Unready::by_path(rt.alloc(), file.path)),
         None => Ok(()),
     }
 }

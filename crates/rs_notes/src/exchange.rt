@@ -1,4 +1,4 @@
-//! The notes on an exchange as a whole: files in which times go back, a subnet in which nobody is, and a server that no
+//! The notes on an exchange as a whole: recorded files in which times go back, a subnet in which nobody is, and a server that no
 //! record names.
 //!
 //! Our choice: a server gets its note only if messages are recorded and each file could be read again.
@@ -6,8 +6,8 @@
 use crate::contents::{Contents, contents_of};
 use crate::note::{back_line, back_lines, server_line, subnet_line};
 use crate::notes::Notes;
-use rs_inventory::PeerId;
-use rs_setup::Setup;
+use rs_inventory::{Back, PeerId};
+use rs_setup::{Recording, Setup};
 use rs_types::Prefix;
 use std::alloc::Global;
 
@@ -27,24 +27,39 @@ pub(crate) fn add_exchange(alloc: Global, setup: &Setup, all: &[Contents<'_>], n
     }
 }
 
-// Adds the note on files in which times go back: where they do in the first one, and how many more there are.
+// Adds the note on files in which times go back: where they do in the first one, and how many more there are. A file
+// that several recordings have counts once.
 fn add_back(alloc: Global, all: &[Contents<'_>], notes: &mut Notes) {
     let mut first = None;
-    let mut files: usize = 0;
+    let mut paths = Vec::new(alloc);
     for contents in all {
         if let Some(back) = contents.held.back() {
-            first = first.or(Some((contents.path, back)));
-            files = files.saturating_add(1);
+            let (path, back) = back_in(contents, back);
+            first = first.or(Some((path, back)));
+            if !paths.contains(&path) {
+                let _ = paths.push(path);
+            }
         }
     }
     if let Some((path, back)) = first {
-        let more = files.saturating_sub(1);
+        let more = paths.len().saturating_sub(1);
         notes.add(if more == 0 {
             back_line(alloc, path, back)
         } else {
             back_lines(alloc, path, more, back)
         });
     }
+}
+
+// In which file of a recording times go back, and where there. If it isn't known at which octet, it is said of the whole
+// recording.
+fn back_in<'b>(contents: &'b Contents<'_>, back: Back) -> (&'b str, Back) {
+    let Some(octet) = back.octet else {
+        return (contents.name.as_str(), back);
+    };
+    let place = contents.locate(octet);
+    let octet = Some(place.octet);
+    (place.path, Back { octet, ..back })
 }
 
 // Whether neither the server nor any peer is in a subnet.
@@ -71,17 +86,25 @@ fn is_inside(subnet: Prefix, address: u32) -> bool {
 // Whether no message of the files names the server as its recorder. If a file could not be read again, nothing is known
 // of its messages.
 fn is_unnamed(setup: &Setup, all: &[Contents<'_>]) -> bool {
-    setup.files.iter().all(|path| match contents_of(all, path) {
-        Some(contents) => !contents.names_server,
-        None => false,
+    (0..setup.files.len()).all(|peer| match setup.recording(peer) {
+        Some(recording) => is_unnamed_in(all, recording),
+        None => true,
     })
 }
 
-// The first file in which a recorder is named, and the first one there.
-fn first_recorder<'a>(all: &[Contents<'a>]) -> Option<(&'a str, PeerId)> {
+// Whether it is known that no message of a recording names the server.
+fn is_unnamed_in(all: &[Contents<'_>], recording: Recording<'_>) -> bool {
+    match contents_of(all, recording) {
+        Some(contents) => !contents.names_server,
+        None => false,
+    }
+}
+
+// The first recording in which a recorder is named, and the first one there.
+fn first_recorder<'b>(all: &'b [Contents<'_>]) -> Option<(&'b str, PeerId)> {
     for contents in all {
         if let Some(recorder) = contents.held.recorder() {
-            return Some((contents.path, recorder));
+            return Some((contents.name.as_str(), recorder));
         }
     }
     None

@@ -124,7 +124,7 @@ fn notes<R: AllocGlobal + Files>(
         telling,
         inferred: reading.losses == Losses::Inferred,
     };
-    let mut notes = notes_of(rt, subject, &outlines.contents(rt, &setup.files));
+    let mut notes = notes_of(rt, subject, &outlines.contents(rt, setup));
     if telling == Telling::All {
         add_filtered(rt.alloc(), served.tables(), &mut notes);
     }

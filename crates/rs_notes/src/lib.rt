@@ -33,7 +33,7 @@ mod subject;
 mod swapped;
 mod unconfigured;
 
-pub use contents::{Contents, contents_of, format_at, is_file, read_contents};
+pub use contents::{Contents, contents_of, format_at, has_files, is_file, read_contents};
 pub use findings::{Findings, outlines_for};
 pub use format::Format;
 pub use hint::{Hint, hint_on};

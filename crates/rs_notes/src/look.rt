@@ -44,7 +44,7 @@ pub(crate) fn look_at<R: AllocGlobal + Files>(
     if has_records(&contents.held, peer) {
         return Look::Plain;
     }
-    let Ok(whole) = read_contents(rt, subject.setup, contents.path, Bounds::none()) else {
+    let Ok(whole) = read_contents(rt, subject.setup, contents.recording, Bounds::none()) else {
         return Look::Unknown;
     };
     match first_of(&whole.held, peer) {
@@ -56,7 +56,7 @@ pub(crate) fn look_at<R: AllocGlobal + Files>(
 // What a file shows that holds this.
 fn look_into(subject: Subject<'_>, contents: &Contents<'_>, peer: PeerId) -> Look {
     let held = &contents.held;
-    match hint_on(held, &contents.front, peer) {
+    match hint_on(held, &contents.front.octets, peer) {
         Some(hint) => Look::Wrong(hint, near_of(subject.setup, held, peer)),
         None => Look::Plain,
     }

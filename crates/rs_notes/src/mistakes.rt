@@ -51,10 +51,14 @@ impl<'a> Mistakes<'a> {
         &mut self,
         alloc: Global,
         spec: &'a PeerSpec,
-        path: &str,
+        contents: &Contents<'_>,
         hint: Hint,
         near: Option<Near>,
     ) {
+        let path = match hint {
+            Hint::NotMrt(_) => contents.front.path,
+            Hint::NoRecord { .. } => contents.name.as_str(),
+        };
         let told = told_by(alloc, &spec.name, path, spec.peer_id(), hint, near);
         match hint {
             Hint::NotMrt(_) => {
@@ -65,14 +69,15 @@ impl<'a> Mistakes<'a> {
         }
     }
 
-    /// Takes a peer whose file, at a path, is empty.
+    /// Takes a peer whose recording, which texts show so, is empty.
     pub(crate) fn take_empty(&mut self, alloc: Global, spec: &'a PeerSpec, path: &str) {
         self.has_empty = true;
         self.formats
             .add(&spec.name, empty_told(alloc, &spec.name, path));
     }
 
-    /// Takes where a file ends within a record, if it does, and wasn't taken before. The session of a peer ended so.
+    /// Takes where a recording ends within a record, if it does, and its file wasn't taken before. The session of a peer
+    /// ended so.
     pub(crate) fn take_cut(
         &mut self,
         subject: Subject<'_>,
@@ -80,16 +85,18 @@ impl<'a> Mistakes<'a> {
         ending: Ending,
     ) {
         let tail = subject.bounds.tail;
-        if !may_be_cut(tail, ending.close) || self.cut.contains(&contents.path) {
-            return;
-        }
         let Some(cut) = contents.cut else {
             return;
         };
-        if self.first.is_none() {
-            self.first = Some(cut);
+        let place = contents.locate(cut.octet);
+        if !may_be_cut(tail, ending.close) || self.cut.contains(&place.path) {
+            return;
         }
-        let _ = self.cut.push(contents.path);
+        if self.first.is_none() {
+            let octet = place.octet;
+            self.first = Some(Cut { octet, ..cut });
+        }
+        let _ = self.cut.push(place.path);
     }
 
     /// Adds the notes. If all notes are wanted, that on a file which ends within a record says how it is cut there.

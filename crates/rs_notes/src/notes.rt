@@ -5,7 +5,7 @@
 //! Our choices: a note that can't be made or written is left out, but it counts. If all notes are wanted, what isn't known
 //! of a file counts as a note, too: memory or a read was refused. So a run that may have a note isn't taken for clean.
 
-use crate::contents::{Contents, contents_of, is_file, read_contents};
+use crate::contents::{Contents, contents_of, has_files, read_contents};
 use crate::doubts::Doubts;
 use crate::exchange::add_exchange;
 use crate::group::Group;
@@ -104,9 +104,12 @@ pub fn notes_on<R: AllocGlobal + Files>(
     endings: &[Ending],
 ) -> Notes {
     let mut all = Vec::new(rt.alloc());
-    for (path, ending) in setup.files.iter().zip(endings) {
-        if may_be_mistaken(bounds.tail, *ending) && contents_of(&all, path).is_none() {
-            if let Ok(contents) = read_contents(rt, setup, path, bounds) {
+    for (peer, ending) in endings.iter().enumerate() {
+        let Some(recording) = setup.recording(peer) else {
+            break;
+        };
+        if may_be_mistaken(bounds.tail, *ending) && contents_of(&all, recording).is_none() {
+            if let Ok(contents) = read_contents(rt, setup, recording, bounds) {
                 let _ = all.push(contents);
             }
         }
@@ -136,14 +139,16 @@ pub fn notes_of<R: AllocGlobal + Files>(
     let alloc = rt.alloc();
     let setup = subject.setup;
     let mut told = ByPeer::none(alloc);
-    for peer in 0..setup.plan.count().min(setup.files.len()) {
-        let path = setup.files[peer].as_str();
-        if let Some(contents) = contents_of(all, path) {
+    for peer in 0..setup.plan.count() {
+        let Some(recording) = setup.recording(peer) else {
+            break;
+        };
+        if let Some(contents) = contents_of(all, recording) {
             if let Some(ending) = ending_of(subject.endings, peer, &contents.held) {
                 told.take(rt, subject, all, peer, contents, ending);
             }
-        } else if subject.telling != Telling::Mistakes && is_file(rt, path).unwrap_or(true) {
-            // It is a file, or memory to see that is refused.
+        } else if subject.telling != Telling::Mistakes && has_files(rt, recording).unwrap_or(true) {
+            // It has no pipe, or memory to see that is refused.
             told.is_unknown = true;
         }
     }
@@ -193,11 +198,11 @@ impl<'a> ByPeer<'a> {
             return;
         }
         let spec = setup.plan.peer(peer);
-        if ending.changes == CLOSE_ALONE {
+        if ending.changes == CLOSE_ALONE || has_compressed_file(contents) {
             let look = look_at(rt, subject, spec, contents);
             let is_swapped = is_of_others(look) && self.mistakes.swapped.take(setup, all, peer);
             if !is_swapped {
-                self.take_look(alloc, subject, spec, contents.path, look);
+                self.take_look(alloc, subject, spec, contents, look);
             }
             if let Look::Wrong(_, _) = look {
                 return;
@@ -213,29 +218,34 @@ impl<'a> ByPeer<'a> {
             .take_sessions(alloc, subject, spec, contents, ending);
     }
 
-    // Takes what the file of a peer shows, of which nothing was kept.
+    // Takes what the recording of a peer shows, of which nothing was kept, or of which a file is compressed.
     fn take_look(
         &mut self,
         alloc: Global,
         subject: Subject<'a>,
         spec: &'a PeerSpec,
-        path: &str,
+        contents: &Contents<'_>,
         look: Look,
     ) {
         match look {
-            Look::Wrong(hint, near) => self.mistakes.take_hint(alloc, spec, path, hint, near),
+            Look::Wrong(hint, near) => self.mistakes.take_hint(alloc, spec, contents, hint, near),
             Look::Later(first) => {
                 self.doubts
                     .take_later(alloc, spec, subject.bounds.until, first)
             }
             Look::Empty if subject.telling != Telling::Mistakes => {
-                self.mistakes.take_empty(alloc, spec, path)
+                self.mistakes.take_empty(alloc, spec, &contents.name)
             }
             Look::Empty => {}
             Look::Unknown => self.is_unknown = true,
             Look::Plain => {}
         }
     }
+}
+
+// Whether a file of a recording is compressed, though another one isn't. Then records of that one may be kept.
+fn has_compressed_file(contents: &Contents<'_>) -> bool {
+    contents.recording.count() > 1 && contents.held.compression().is_some()
 }
 
 // Whether a file has records, and all of them are of others.

@@ -1,23 +1,24 @@
-//! The outlines of the recorded files of an exchange, made while the files are read for something else.
+//! The outlines of the recordings of an exchange, made while they are read for something else.
 //!
-//! Our choices: a file that several peers name has one outline, which the first of them makes. The outline of a file
-//! that wasn't read to its end isn't known, nor is one for which memory was refused. Such a file is read once more.
+//! Our choices: a recording that several peers have has one outline, which the first of them makes. The outline of a
+//! recording that wasn't read to its end isn't known, nor is one for which memory was refused. Such a one is read once
+//! more.
 
 use crate::contents::{Contents, contents_at, contents_of};
 use rs_inventory::{Outline, OutlineSlot, PeerId};
 use rs_mrt::{Bounds, Tail};
-use rs_setup::Setup;
+use rs_setup::{Recording, Setup};
 use std::alloc::Global;
 use std::fs::Files;
 
-/// The outlines of the recorded files of an exchange.
+/// The outlines of the recordings of an exchange.
 #[derive(Drop)]
 pub struct Outlines {
     bounds: Bounds,
     // The server of the exchange; none if these are outlines of no file.
     server: Option<PeerId>,
-    // One for each path of the exchange, in their order; none for a path that stands there before.
-    files: Vec<Option<OutlineSlot>>,
+    // One for each peer of the exchange, in their order; none for a peer with the recording of an earlier one.
+    slots: Vec<Option<OutlineSlot>>,
 }
 
 impl Outlines {
@@ -26,7 +27,7 @@ impl Outlines {
         Outlines {
             bounds,
             server: None,
-            files: Vec::new(alloc),
+            slots: Vec::new(alloc),
         }
     }
 
@@ -42,15 +43,15 @@ impl Outlines {
         let mut outlines = Outlines {
             bounds,
             server: Some(setup.plan.local().peer_id()),
-            files: Vec::new(alloc),
+            slots: Vec::new(alloc),
         };
-        for (peer, path) in setup.files.iter().enumerate() {
-            let slot = if setup.files[..peer].contains(path) {
+        for peer in 0..setup.files.len() {
+            let slot = if has_earlier(setup, peer) {
                 None
             } else {
                 Some(OutlineSlot::empty())
             };
-            if outlines.files.push(slot).is_err() {
+            if outlines.slots.push(slot).is_err() {
                 break;
             }
         }
@@ -62,27 +63,27 @@ impl Outlines {
         self.bounds
     }
 
-    /// Where the outlines are put, by the number of the peer: none for one whose file an earlier peer names.
+    /// Where the outlines are put, by the number of the peer: none for one with the recording of an earlier peer.
     pub fn slots(&self) -> &[Option<OutlineSlot>] {
-        &self.files
+        &self.slots
     }
 
-    /// Takes what the files at these paths of the setup hold, without those that cannot be read again, or for which
-    /// memory is refused. A file whose outline isn't known, or was taken before, is read for that. Outlines of no file
-    /// tell nothing.
+    /// Takes what the recordings of the setup hold, without those that cannot be read again, or for which memory is
+    /// refused. A recording whose outline isn't known, or was taken before, is read for that. Outlines of no file tell
+    /// nothing.
     pub fn contents<'a, R: AllocGlobal + Files>(
         &self,
         rt: &R,
-        paths: &'a [String],
+        setup: &'a Setup,
     ) -> Vec<Contents<'a>> {
         let mut all = Vec::new(rt.alloc());
         let Some(server) = self.server else {
             return all;
         };
-        for (place, path) in paths.iter().enumerate() {
-            if contents_of(&all, path).is_none() {
-                let known = self.outline(place);
-                if let Ok(contents) = contents_at(rt, path, self.bounds, server, known) {
+        for peer in 0..setup.files.len() {
+            if let Some(recording) = unknown_at(setup, &all, peer) {
+                let known = self.outline(peer);
+                if let Ok(contents) = contents_at(rt, recording, self.bounds, server, known) {
                     let _ = all.push(contents);
                 }
             }
@@ -90,11 +91,26 @@ impl Outlines {
         all
     }
 
-    // Takes the outline of the path at a place, if there is one.
-    fn outline(&self, place: usize) -> Option<Outline> {
-        match self.files.get(place) {
+    // Takes the outline of the recording of a peer, if there is one.
+    fn outline(&self, peer: usize) -> Option<Outline> {
+        match self.slots.get(peer) {
             Some(Some(slot)) => slot.take(),
             _ => None,
         }
+    }
+}
+
+// Whether an earlier peer has the recording of the peer of a number.
+fn has_earlier(setup: &Setup, peer: usize) -> bool {
+    let recording = setup.recording(peer);
+    (0..peer).any(|earlier| setup.recording(earlier) == recording)
+}
+
+// The recording of the peer of a number, if it isn't known yet what it holds.
+fn unknown_at<'a>(setup: &'a Setup, all: &[Contents<'_>], peer: usize) -> Option<Recording<'a>> {
+    let recording = setup.recording(peer)?;
+    match contents_of(all, recording) {
+        Some(_) => None,
+        None => Some(recording),
     }
 }

@@ -112,7 +112,7 @@ fn crossed_records(setup: &Setup, all: &[Contents<'_>], peer: usize, other: usiz
         setup.plan.peer(other).peer_id(),
     );
     let crossed = crossed_id(own, with);
-    let contents = contents_of(all, setup.files.get(peer)?)?;
+    let contents = contents_of(all, setup.recording(peer)?)?;
     if !is_stranger(setup, crossed) || records_of(contents, own) > 0 {
         return None;
     }

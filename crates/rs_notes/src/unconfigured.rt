@@ -9,7 +9,7 @@ use crate::note::{add_counted, add_unconfigured_end, unconfigured_line};
 use crate::notes::Notes;
 use crate::peers::is_stranger;
 use rs_inventory::PeerId;
-use rs_setup::Setup;
+use rs_setup::{Recording, Setup};
 use std::alloc::{AllocError, Global};
 use std::collections::BTreeMap;
 
@@ -23,8 +23,8 @@ struct Counted {
     records: u64,
 }
 
-/// Adds the note on the peers of these files that no peer of the configuration is, if there are any. Each file counts
-/// once, and of each peer the records that a route server reads.
+/// Adds the note on the peers of these recordings that no peer of the configuration is, if there are any. Of recordings
+/// with the same last file only the first counts, and of each peer the records that a route server reads.
 pub fn add_unconfigured(alloc: Global, setup: &Setup, all: &[Contents<'_>], notes: &mut Notes) {
     if let Ok(counts) = counts_of(alloc, setup, all) {
         if let Some(first) = next_of(&counts, None) {
@@ -40,14 +40,32 @@ fn counts_of(
     all: &[Contents<'_>],
 ) -> Result<BTreeMap<PeerId, u64>, AllocError> {
     let mut counts = BTreeMap::new(alloc);
-    for contents in all {
-        for (peer, records) in contents.held.peers() {
-            if records.records() > 0 && is_stranger(setup, *peer) {
-                add_to(&mut counts, *peer, records.records())?;
-            }
+    for (place, contents) in all.iter().enumerate() {
+        if !is_counted(&all[..place], contents.recording) {
+            add_peers(setup, contents, &mut counts)?;
         }
     }
     Ok(counts)
+}
+
+// Whether one of these recordings has the last file of another one.
+fn is_counted(earlier: &[Contents<'_>], recording: Recording<'_>) -> bool {
+    let mut earlier = earlier.iter();
+    earlier.any(|contents| contents.recording.file == recording.file)
+}
+
+// Adds how many records a recording has of each peer that no peer of the configuration is.
+fn add_peers(
+    setup: &Setup,
+    contents: &Contents<'_>,
+    counts: &mut BTreeMap<PeerId, u64>,
+) -> Result<(), AllocError> {
+    for (peer, records) in contents.held.peers() {
+        if records.records() > 0 && is_stranger(setup, *peer) {
+            add_to(counts, *peer, records.records())?;
+        }
+    }
+    Ok(())
 }
 
 // Adds so many records of a peer.

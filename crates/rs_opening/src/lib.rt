@@ -9,5 +9,5 @@
 mod files;
 mod sought_peer;
 
-pub use files::{Replayed, open_files};
+pub use files::{Beside, Replayed, open_files};
 pub use sought_peer::sought;

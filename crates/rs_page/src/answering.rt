@@ -38,7 +38,7 @@ where
     let tally = summary_on_threads(rt, alloc, served.tables())?;
     let (outlines, losses) = (served.outlines(), query.tables.losses);
     let bounds = outlines.bounds();
-    let contents = outlines.contents(rt, &setup.files);
+    let contents = outlines.contents(rt, &setup);
     let times = times_of(rt, &setup, &contents, bounds, &query.tables)?;
     let members = members_of(alloc, &tally, &times)?;
     let subject = Subject {

@@ -7,7 +7,7 @@ use crate::changes::Changes;
 use crate::spans::{Ends, Lost, Span, spans_of};
 use rs_glass::{Loss, loss_of};
 use rs_glass_shell::{PeerSession, Unanswered, inferred_of};
-use rs_host::{Unready, open_file};
+use rs_host::{Reached, Unready, open_recording};
 use rs_inventory::{Inventory, PeerId, PeerRecords};
 use rs_losses::{Sought, WithLosses};
 use rs_mrt::{Bounds, Lenient, Losses, RecordReader, Source};
@@ -15,7 +15,7 @@ use rs_notes::{Contents, contents_of};
 use rs_opening::sought;
 use rs_query::TablesQuery;
 use rs_session::{Body, Reason, Session, Word};
-use rs_setup::Setup;
+use rs_setup::{Recording, Setup};
 use rs_update::Errors;
 use std::alloc::{AllocError, Global};
 use std::fs::Files;
@@ -68,8 +68,10 @@ pub(crate) fn times_of<R: AllocGlobal + Files>(
         changes: Changes::none(first.unwrap_or(0), last.unwrap_or(0)),
         any: first.is_some(),
     };
-    for peer in 0..setup.plan.count().min(setup.files.len()) {
-        let path = setup.files[peer].as_str();
+    for peer in 0..setup.plan.count() {
+        let Some(recording) = setup.recording(peer) else {
+            break;
+        };
         let of = setup.plan.peer(peer).peer_id();
         let manner = Manner {
             bounds,
@@ -77,7 +79,7 @@ pub(crate) fn times_of<R: AllocGlobal + Files>(
             losses: query.losses,
             who: sought(&setup.plan, peer),
         };
-        let recorded = records_of(contents, path, of);
+        let recorded = records_of(contents, recording, of);
         let held = match (recorded, manner.losses) {
             (Some(_), Losses::Inferred) => inferred_of(rt, setup, bounds, contents, peer),
             _ => None,
@@ -87,7 +89,7 @@ pub(crate) fn times_of<R: AllocGlobal + Files>(
             Losses::Inferred => records_in(&held, of),
         };
         let one = match recorded {
-            Some(_) => heard(rt, records, path, manner, &mut times.changes)?,
+            Some(_) => heard(rt, records, recording, manner, &mut times.changes)?,
             None => silent(rt.alloc()),
         };
         times.take(one, PeerSession::of(records))?;
@@ -114,12 +116,28 @@ fn silent(alloc: Global) -> PeerTimes {
     }
 }
 
-// The records of a peer in the file at a path.
-fn records_of<'b>(all: &'b [Contents<'_>], path: &str, peer: PeerId) -> Option<&'b PeerRecords> {
-    contents_of(all, path)?.held.peers().get(&peer)
+// The records of a peer in a recording.
+fn records_of<'b>(
+    all: &'b [Contents<'_>],
+    recording: Recording<'_>,
+    peer: PeerId,
+) -> Option<&'b PeerRecords> {
+    contents_of(all, recording)?.held.peers().get(&peer)
 }
 
-// The records of a peer in what a file holds, if that is known.
+// The records of the peer of a number.
+fn records_by<'b>(
+    setup: &Setup,
+    all: &'b [Contents<'_>],
+    peer: usize,
+) -> Option<&'b PeerRecords> {
+    if peer >= setup.plan.count() {
+        return None;
+    }
+    records_of(all, setup.recording(peer)?, setup.plan.peer(peer).peer_id())
+}
+
+// The records of a peer in what a recording holds, if that is known.
 fn records_in(held: &Option<Inventory>, peer: PeerId) -> Option<&PeerRecords> {
     match held {
         Some(held) => held.peers().get(&peer),
@@ -134,9 +152,8 @@ fn range_of(setup: &Setup, contents: &[Contents<'_>]) -> (Option<u32>, Option<u3
     for one in contents {
         last = later(last, one.held.last());
     }
-    for peer in 0..setup.plan.count().min(setup.files.len()) {
-        let of = setup.plan.peer(peer).peer_id();
-        if let Some(records) = records_of(contents, &setup.files[peer], of) {
+    for peer in 0..setup.plan.count() {
+        if let Some(records) = records_by(setup, contents, peer) {
             first = earlier(first, records.course().first);
         }
     }
@@ -166,14 +183,18 @@ fn later(one: Option<u32>, other: Option<u32>) -> Option<u32> {
 fn heard<R: AllocGlobal + Files>(
     rt: &R,
     records: Option<&PeerRecords>,
-    path: &str,
+    recording: Recording<'_>,
     manner: Manner,
     changes: &mut Changes,
 ) -> Result<PeerTimes, Unanswered> {
     let alloc = rt.alloc();
-    let file = match open_file(rt, path) {
+    let reached = Reached::first();
+    let file = match open_recording(rt, recording, Some(&reached)) {
         Ok(file) => file,
-        Err(fault) => return Err(Unanswered::from(Unready::by_file(alloc, fault, path))),
+        Err(fault) => {
+            let unready = Unready::by_file(alloc, fault, recording.path(0));
+            return Err(Unanswered::from(unready));
+        }
     };
     let reader = RecordReader::up_to(file, manner.bounds.until);
     let whole = Lenient::new(reader, manner.bounds.tail);
@@ -182,7 +203,8 @@ fn heard<R: AllocGlobal + Files>(
     let mut one = silent(alloc);
     let ends = hear(alloc, session, &mut one, changes)?;
     if let Some((_, Reason::Read)) = ends.close {
-        return Err(Unanswered::from(Unready::by_path(alloc, path)));
+        let unready = Unready::by_path(alloc, reached.path(recording));
+        return Err(Unanswered::from(unready));
     }
     let Some(records) = records else {
         return Err(Unanswered::Memory);

@@ -2,20 +2,22 @@
 
 ghost use Rattle.std.specs.Prelude.{◌≡◌, ◌≤◌, ◌^◌, All, Some, IfErr, IfOk, length};
 ghost use Rattle.rs_opening.specs.Opening.{AreReadSo, room_of};
-ghost use Rattle.rs_program.specs.Texts.{CanTell};
+ghost use Rattle.std.specs.Borrow.{Bor};
+ghost use Rattle.rs_options.specs.declared.options.Options.{Options};
+ghost use Rattle.rs_program.specs.Texts.{CanTell, NamesPeer};
 
 use crate::ended::{Ended, status};
-use crate::files::octets_of;
+use crate::files::octets_of_setup;
 use crate::progress::Progress;
 use crate::texts::{PROGRAM, line};
 use crate::tried::first_unwritable;
-use rs_host::{each_on_one_line, end_with, read_arguments};
-use rs_inventory::OutlineSlot;
+use rs_host::{Joined, Reached, each_on_one_line, end_with, read_arguments, unread_at};
 use rs_mrt::FileReading;
-use rs_opening::{Replayed, open_files};
+use rs_opening::{Beside, Replayed, open_files};
 use rs_options::{CommandLine, Options, WordsFault, read_command_line};
 use rs_outlet::RunFault;
 use rs_setup::Setup;
+use std::alloc::Global;
 use std::env::Env;
 use std::fs::Files;
 use std::io::{Read, Stderr};
@@ -49,14 +51,14 @@ fn fault_on_one_line<R: AllocGlobal + Env>(
     }
 }
 
-/// How much of the files of these paths was read, shown if there is a terminal.
+/// How much of the recordings of a setup was read, shown if there is a terminal.
 pub fn progress_on<R: Files>(
     rt: &R,
     terminal: Option<Stderr>,
-    paths: &[String],
+    setup: &Setup,
 ) -> Progress<Stderr> {
     let total = match terminal {
-        Some(_) => octets_of(rt, paths),
+        Some(_) => octets_of_setup(rt, setup),
         None => None,
     };
     Progress::new(terminal, total)
@@ -64,13 +66,13 @@ pub fn progress_on<R: Files>(
 
 /// Opens the recorded files of the peers, as `open_files` does, once each dump can be written: where one would take the
 /// place of a file that is read, or the folder takes no files, nothing is read or written.
-pub fn ready_files<'a, R: AllocGlobal + Files, F: Read + Drop, O: Fn(R::File) -> F>(
-    rt: &R,
-    setup: &Setup,
+pub fn ready_files<'a, R: AllocGlobal + Files, F: Read + Drop, O: Fn(Joined<'a, R>) -> F>(
+    rt: &'a R,
+    setup: &'a Setup,
     options: &Options,
     reading: FileReading,
     observed: O,
-    slots: &'a [Option<OutlineSlot>],
+    beside: Beside<'a>,
 ) -> Result<Vec<Replayed<'a, F>>, Ended>
     requires observed { O.IsAlwaysCallable observed }
     requires one_for_each { length setup.now.files.items ≡ length setup.now.plan.value.peers }
@@ -79,10 +81,25 @@ pub fn ready_files<'a, R: AllocGlobal + Files, F: Read + Drop, O: Fn(R::File) ->
     ensures room { IfOk result (λ files. All (λ file. room_of file ≤ 2 ^ 50) files.items) }
     ensures refused { IfErr result (λ ended. CanTell ended (Some setup.entry) (Some options.entry)) }
 {
-    let files = open_files(rt, setup, reading, observed, slots)?;
+    let files = open_files(rt, setup, reading, observed, beside)?;
     match first_unwritable(rt, setup, options)? {
         Some(client) => Err(Ended::Run(RunFault::Dump(client))),
         None => Ok(files),
+    }
+}
+
+/// How the program ends if a run over the recordings of a setup stops short, which were read so far. If a read failed, the
+/// file is named, unless memory for that is refused.
+pub fn ended_by(alloc: Global, setup: &Setup, reached: &[Reached], fault: RunFault) -> Ended
+    requires { NamesPeer fault setup.now }
+    ensures { (options : Bor Options) → CanTell result (Some setup.entry) (Some options) }
+{
+    let RunFault::Read(peer) = fault else {
+        return Ended::Run(fault);
+    };
+    match setup.begins.get(peer) {
+        Some(begin) if !begin.is_empty() => Ended::from(unread_at(alloc, setup, reached, peer)),
+        _ => Ended::Run(fault),
     }
 }
 

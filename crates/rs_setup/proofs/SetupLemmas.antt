@@ -18,7 +18,7 @@ use Rattle.rs_choice.specs.Plan.{Peer, Plan, peer_of}
 use Rattle.rs_import.specs.Import.{no_import}
 use Rattle.rs_setup.specs.Import.{AreLists}
 use Rattle.rs_setup.specs.Peers.{IsAdded}
-use Rattle.rs_setup.specs.Setup.{ArePeers, IsPeer, IsSetup}
+use Rattle.rs_setup.specs.Setup.{ArePeers, IsBegin, IsPeer, IsSetup, texts_in}
 use Rattle.rs_setup.specs.Values.{AreAll}
 use Rattle.rs_setup.specs.declared.peers.Peers.{Peers}
 
@@ -109,13 +109,16 @@ ArePeers-push values peers files value peer file so_far is = absurd so_far
 -- one more peer that was added to those so far
 pub added : (values : Items) (before after : Peers) (value : Data)
     → ArePeers values (map peer_of before.specs.items) (map string_bytes before.files.items)
+    × AreAll IsBegin values (map texts_in before.begins.items)
     × AreAll AreLists values before.lists.items
     → IsAdded before after value
     → ArePeers (push_item values value) (map peer_of after.specs.items) (map string_bytes after.files.items)
+    × AreAll IsBegin (push_item values value) (map texts_in after.begins.items)
     × AreAll AreLists (push_item values value) after.lists.items
-added values before after value (are, all) one =
-    rw (one.peers, one.files, one.all_lists) (
+added values before after value (are, begin, all) one =
+    rw (one.peers, one.files, one.begins, one.all_lists) (
       ArePeers-push values (map peer_of before.specs.items) (map string_bytes before.files.items) value one.peer one.file are one.is_peer,
+      AreAll-push IsBegin values (map texts_in before.begins.items) value one.begin begin one.is_begin,
       AreAll-push AreLists values before.lists.items value one.lists all one.are_lists,
     )
 

@@ -13,9 +13,9 @@ use Rattle.rs_choice.specs.Plan.{Peer}
 use Rattle.rs_choice.specs.declared.plan.Local.{Local}
 use Rattle.rs_update.specs.IpPrefix.{IpPrefix}
 use Rattle.rs_update.specs.Prefix.{network_of}
-use Rattle.rs_setup.specs.Setup.{ArePeers, ArePeersOf, IsPeer, IsPeerOf, IsServer, IsServerOf}
-use Rattle.rs_setup.specs.Laws.{SetsUpOnce}
-use Rattle.rs_setup.specs.Values.{IsAddress, IsBoolean, IsDottedAddress, IsSlashedSubnet, IsSomeSubnet, IsSubnet, IsText, IsTexts}
+use Rattle.rs_setup.specs.Setup.{ArePeers, ArePeersOf, IsBegin, IsPeer, IsPeerOf, IsServer, IsServerOf}
+use Rattle.rs_setup.specs.Laws.{BeginsOnce, SetsUpOnce}
+use Rattle.rs_setup.specs.Values.{AreAll, AreListed, IsAddress, IsBoolean, IsDottedAddress, IsSlashedSubnet, IsSomeSubnet, IsSubnet, IsText, IsTexts}
 use Rattle.rs_setup.specs.Values.{IsWholeNumber}
 
 -- a value stands for one thing at most
@@ -163,6 +163,33 @@ peers_of_once value (xs, files) (ys, others) (values, is, peers) (items, are, al
     let equal : values ≡ items = cc in
     let both = peers_once items xs ys files others (subst (λ (one : Items). ArePeers one xs files) equal peers) also in
     λ i. (both.0 i, both.1 i)
+
+begin_once : StandsForOne IsBegin
+begin_once value xs ys (keys, is, begin) (others, are, also) =
+    let same : table keys ≡ table others = sym is ∙ are in
+    let equal : keys ≡ others = cc in
+    default_once IsTexts texts_once (get_member (codes "begin") others) _ _ _ _ refl
+    (subst (λ (one : Members). MatchOption (get_member (codes "begin") one) (xs ≡ []) (λ value. IsTexts value xs)) equal begin) also
+
+all_once : (values : Items) (xs ys : List (List (List ℕ))) → AreAll IsBegin values xs → AreAll IsBegin values ys → xs ≡ ys
+all_once no_items [] [] h k = refl
+all_once (item value values) (x ∷ xs) (y ∷ ys) h k =
+    let here : x ≡ y = begin_once value x y h.0 k.0 in
+    let later : xs ≡ ys = all_once values xs ys h.1 k.1 in
+    cc
+all_once no_items [] (y ∷ ys) h k = absurd k
+all_once (item value values) (x ∷ xs) [] h k = absurd k
+all_once values xs ys h k = absurd h
+
+listed_once : StandsForOne (AreListed IsBegin)
+listed_once value xs ys (values, is, all) (items, are, also) =
+    let same : array values ≡ array items = sym is ∙ are in
+    let equal : values ≡ items = cc in
+    all_once items xs ys (subst (λ (one : Items). AreAll IsBegin one xs) equal all) also
+
+pub begins_once : BeginsOnce
+begins_once keys begins others h k =
+    default_once (AreListed IsBegin) listed_once (get_member (codes "peer") keys) _ _ _ _ refl h k
 
 pub setup_once : SetsUpOnce
 setup_once keys plan other files others h k =

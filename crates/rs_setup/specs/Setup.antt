@@ -1,6 +1,7 @@
 -- What a configuration sets up: the server, its peers and their recorded files (our choice: RFC 4271 leaves
 -- configuration to the implementation).
-use Rattle.std.specs.Prelude.{◌≡◌, ℕ, Bool, false, List, [], ◌∷◌, codes, None}
+use Rattle.std.specs.Prelude.{◌≡◌, ℕ, Bool, false, List, [], ◌∷◌, codes, map, None, String, string_bytes}
+use Rattle.std.specs.Global.{Global, Vec}
 use Rattle.toml.specs.Data.{Data, table, array, Items, no_items, item, Members}
 use Rattle.rs_choice.specs.Import.{no_import}
 use Rattle.rs_choice.specs.Plan.{Peer, Plan}
@@ -8,7 +9,7 @@ use Rattle.rs_choice.specs.declared.plan.Local.{Local}
 use Rattle.rs_setup.specs.Import.{IsImportSetup, paths_of}
 use Rattle.rs_setup.specs.Lists.{Holding, IsPolicy}
 use Rattle.rs_setup.specs.Values.{HasOnly, IsAddress, IsBoolean, IsSomeSubnet, IsText, IsTexts, IsWholeNumber}
-use Rattle.rs_setup.specs.Values.{MayHave, Needs}
+use Rattle.rs_setup.specs.Values.{AreListed, MayHave, Needs}
 use Rattle.rs_setup.specs.declared.import_setup.ImportSetup.{ImportSetup}
 
 -- the keys of a configuration, of its server and of a peer
@@ -21,8 +22,8 @@ server_keys =
 
 abbrev pub peer_keys : List (List ℕ)
 peer_keys =
-    codes "address" ∷ codes "as" ∷ codes "as_list" ∷ codes "file" ∷ codes "id" ∷ codes "import" ∷ codes "name"
-    ∷ codes "preference" ∷ codes "prefix_list" ∷ codes "refuse_from" ∷ []
+    codes "address" ∷ codes "as" ∷ codes "as_list" ∷ codes "begin" ∷ codes "file" ∷ codes "id" ∷ codes "import"
+    ∷ codes "name" ∷ codes "preference" ∷ codes "prefix_list" ∷ codes "refuse_from" ∷ []
 
 -- the preference of a peer if none is configured
 abbrev pub default_preference : ℕ
@@ -68,6 +69,18 @@ ArePeers _ _ _ = ⊥
 -- a list of peers' tables
 abbrev pub ArePeersOf : Data → List Peer × List (List ℕ) → Type 0
 ArePeersOf value (peers, files) = (values : Items) × (value ≡ array values) × ArePeers values peers files
+
+-- texts as lists of octets
+abbrev pub texts_in : Vec (String Global) → List (List ℕ)
+texts_in texts = map string_bytes texts.items
+
+-- a peer's table, and the paths of the files that are read before its recorded file: none if none are configured
+abbrev pub IsBegin : Data → List (List ℕ) → Type 0
+IsBegin value paths = (keys : Members) × (value ≡ table keys) × MayHave keys (codes "begin") IsTexts [] paths
+
+-- The paths of the files that are read before the recorded file of each peer, in the order of the peers.
+abbrev pub AreBegins : Members → List (List (List ℕ)) → Type 0
+AreBegins keys begins = MayHave keys (codes "peer") (AreListed IsBegin) [] begins
 
 -- What the table of a configuration sets up: the plan of the exchange, and the path of each peer's recorded file, in
 -- the order of the peers. Import policy asks nothing.

@@ -7,7 +7,7 @@ ghost use Rattle.toml.specs.View.{items_view, table_view, view};
 ghost use Rattle.rs_setup.specs.Import.{AreLists};
 ghost use Rattle.rs_setup.specs.Section.{members_in};
 ghost use Rattle.rs_setup.specs.Peers.{IsAdded};
-ghost use Rattle.rs_setup.specs.Setup.{ArePeers, ArePeersOf, IsPeerOf, IsServer};
+ghost use Rattle.rs_setup.specs.Setup.{ArePeers, ArePeersOf, IsBegin, IsPeerOf, IsServer, texts_in};
 ghost use Rattle.rs_setup.specs.Values.{AreAll, AreListed, MayHave, Needs};
 
 use crate::import_setup::{PeerLists, read_lists};
@@ -60,14 +60,18 @@ pub struct Peers {
     pub specs: Vec<PeerSpec>,
     /// The path of each peer's recorded file.
     pub files: Vec<String>,
+    /// The paths of the files that are read before it.
+    pub begins: Vec<Vec<String>>,
     /// The lists of each peer.
     pub lists: Vec<PeerLists>,
 }
 
-/// Reads the peers, with the paths of their files and their lists, in order, out of the configuration's table.
+/// Reads the peers, with the paths of their files and lists, in order, out of the configuration's table.
 pub fn read_peers(alloc: Global, top: &Section) -> Result<Peers, SetupFault>
     ensures peers { IfOk result (λ found. MayHave (members_in top.now) (codes "peer") ArePeersOf ([], [])
         (map peer_of found.specs.items, map string_bytes found.files.items)) }
+    ensures begins { IfOk result (λ found. MayHave (members_in top.now) (codes "peer") (AreListed IsBegin) []
+        (map texts_in found.begins.items)) }
     ensures lists { IfOk result (λ found. MayHave (members_in top.now) (codes "peer") (AreListed AreLists) []
         found.lists.items) }
 {
@@ -81,11 +85,13 @@ pub fn read_peers(alloc: Global, top: &Section) -> Result<Peers, SetupFault>
 fn no_peers(alloc: Global) -> Peers
     ensures specs { result.specs.items ≡ [] }
     ensures files { result.files.items ≡ [] }
+    ensures begins { result.begins.items ≡ [] }
     ensures lists { result.lists.items ≡ [] }
 {
     Peers {
         specs: Vec::new(alloc),
         files: Vec::new(alloc),
+        begins: Vec::new(alloc),
         lists: Vec::new(alloc),
     }
 }
@@ -94,6 +100,7 @@ fn no_peers(alloc: Global) -> Peers
 fn read_list(alloc: Global, values: &[Value]) -> Result<Peers, SetupFault>
     ensures peers { IfOk result (λ found. ArePeers (items_view values.now) (map peer_of found.specs.items)
         (map string_bytes found.files.items)) }
+    ensures begins { IfOk result (λ found. AreAll IsBegin (items_view values.now) (map texts_in found.begins.items)) }
     ensures lists { IfOk result (λ found. AreAll AreLists (items_view values.now) found.lists.items) }
 {
     let mut peers = no_peers(alloc);
@@ -114,9 +121,11 @@ fn add_peer(
 {
     let peer = Section::new(Place::Peer(number), peer_table(alloc, number, value)?);
     let (spec, file) = read_peer(alloc, &peer)?;
+    let begin = peer.texts(alloc, "begin")?;
     let lists = read_lists(alloc, &peer)?;
     peers.specs.push(spec)?;
     peers.files.push(file)?;
+    peers.begins.push(begin)?;
     peers.lists.push(lists)?;
     Ok(())
 }
@@ -131,6 +140,7 @@ fn read_peer(alloc: Global, peer: &Section) -> Result<(PeerSpec, String), SetupF
             "address",
             "as",
             "as_list",
+            "begin",
             "file",
             "id",
             "import",

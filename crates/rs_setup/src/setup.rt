@@ -12,7 +12,7 @@ ghost use Rattle.toml.specs.View.{table_view};
 ghost use Rattle.rs_setup.specs.Fault.{of_plan};
 ghost use Rattle.rs_setup.specs.Import.{IsImportSetup, IsRules, has_list};
 ghost use Rattle.rs_setup.specs.Section.{members_in};
-ghost use Rattle.rs_setup.specs.Setup.{AreListPaths, IsSetup, IsWholeSetup};
+ghost use Rattle.rs_setup.specs.Setup.{AreBegins, AreListPaths, IsSetup, IsWholeSetup, texts_in};
 ghost use Rattle.rs_setup.specs.Values.{MayHave};
 ghost use Rattle.rs_import.specs.Import.{no_rules};
 ghost use Rattle.rs_setup.specs.declared.setup.SetupFault.TheVariants.{Memory};
@@ -36,6 +36,8 @@ pub struct Setup {
     pub plan: Arc<Exchange>,
     /// The path of each peer's recorded file, in the order of the peers.
     pub files: Vec<String>,
+    /// The paths of the files that are read before it, as one recording with it, in the order of the peers.
+    pub begins: Vec<Vec<String>>,
     /// The paths of the VRP file and of the peers' lists, as they are read. One may stand there several times.
     pub lists: Vec<String>,
 }
@@ -138,6 +140,7 @@ impl<T: Drop> From<AllocFailed<T>> for NoSetup {
 struct Parts {
     exchange: Exchange,
     files: Vec<String>,
+    begins: Vec<Vec<String>>,
     import: ImportSetup,
 }
 
@@ -149,6 +152,8 @@ struct Parts {
 pub fn read_setup(alloc: Global, text: &[u8]) -> Result<Setup, SetupFault>
     ensures setup { IfOk result (λ setup. (table : Members) × (parse_document text.now ≡ Some table)
         × IsSetup table setup.plan.value (map string_bytes setup.files.items)) }
+    ensures begins { IfOk result (λ setup. (table : Members) × (parse_document text.now ≡ Some table)
+        × AreBegins table (map texts_in setup.begins.items)) }
     ensures lists { IfOk result (λ setup. (table : Members) × (parse_document text.now ≡ Some table)
         × AreListPaths table (map string_bytes setup.lists.items)) }
 {
@@ -158,6 +163,7 @@ pub fn read_setup(alloc: Global, text: &[u8]) -> Result<Setup, SetupFault>
     Ok(Setup {
         plan,
         files: parts.files,
+        begins: parts.begins,
         lists,
     })
 }
@@ -173,6 +179,8 @@ pub fn read_whole_setup<L: ListFiles>(
 ) -> Result<Setup, NoSetup>
     ensures setup { IfOk result (λ setup. (table : Members) × (parse_document text.now ≡ Some table)
         × IsWholeSetup (L.holds files.now) table setup.plan.value (map string_bytes setup.files.items)) }
+    ensures begins { IfOk result (λ setup. (table : Members) × (parse_document text.now ≡ Some table)
+        × AreBegins table (map texts_in setup.begins.items)) }
     ensures lists { IfOk result (λ setup. (table : Members) × (parse_document text.now ≡ Some table)
         × AreListPaths table (map string_bytes setup.lists.items)) }
 {
@@ -183,6 +191,7 @@ pub fn read_whole_setup<L: ListFiles>(
     Ok(Setup {
         plan,
         files: parts.files,
+        begins: parts.begins,
         lists,
     })
 }
@@ -190,7 +199,8 @@ pub fn read_whole_setup<L: ListFiles>(
 // Reads the text of a configuration.
 fn read_parts(alloc: Global, text: &[u8]) -> Result<Parts, SetupFault>
     ensures { IfOk result (λ parts. (table : Members) × (parse_document text.now ≡ Some table)
-        × IsSetup table parts.exchange (map string_bytes parts.files.items) × IsImportSetup table parts.import) }
+        × IsSetup table parts.exchange (map string_bytes parts.files.items) × IsImportSetup table parts.import
+        × AreBegins table (map texts_in parts.begins.items)) }
 {
     let table = read_table(alloc, text)?;
     let top = Section::new(Place::Top, &table);
@@ -204,6 +214,7 @@ fn read_parts(alloc: Global, text: &[u8]) -> Result<Parts, SetupFault>
     Ok(Parts {
         exchange,
         files: peers.files,
+        begins: peers.begins,
         import,
     })
 }

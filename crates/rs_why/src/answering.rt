@@ -14,10 +14,10 @@ use rs_glass::{
 use rs_glass_shell::{
     Reply, Unanswered, Whose, answer_with, check_place, known_of, peer_named, write_whole,
 };
-use rs_host::{WordsFault, configuration, first_unreadable, on_one_line};
+use rs_host::{Reached, WordsFault, configuration, first_unreadable, on_one_line};
 use rs_mrt::{Bounds, FileReading, Losses, Tail};
 use rs_notes::Outlines;
-use rs_opening::open_files;
+use rs_opening::{Beside, open_files};
 use rs_query::{Destination, HistoryQuery, Span, WhyQuery};
 use rs_setup::Setup;
 use rs_update::Prefix;
@@ -196,15 +196,15 @@ fn refuse_read_once<R: AllocGlobal + Files>(
     address: u32,
 ) -> Result<(), Unanswered> {
     let alloc = rt.alloc();
-    let mut paths = Vec::new(alloc);
-    for path in setup.files.iter().chain(setup.files.iter()) {
-        paths
-            .push(String::from_str(alloc, path)?)
+    let mut recordings = setup.recordings(alloc)?;
+    for recording in setup.recordings(alloc)? {
+        recordings
+            .push(recording)
             .map_err(|_| Unanswered::Memory)?;
     }
-    match first_unreadable(rt, &paths)? {
-        Some(place) if place >= setup.files.len() => {
-            let path = on_one_line(alloc, &paths[place])?;
+    match first_unreadable(rt, &recordings)? {
+        Some(file) if file.number >= setup.files.len() => {
+            let path = on_one_line(alloc, file.path)?;
             let address = Ipv4Addr::from_bits(address);
             let text = format!(in alloc;
                 "looking_glass: --prefix {address} is an address, and {path} can be read only once\n"
@@ -235,10 +235,15 @@ where
         bounds: outlines.bounds(),
         losses,
     };
-    let files = open_files(rt, setup, reading, |file| file, outlines.slots())?;
+    let reached = Reached::first_of_each(alloc, setup)?;
+    let beside = Beside {
+        outlines: outlines.slots(),
+        reached: &reached,
+    };
+    let files = open_files(rt, setup, reading, |octets| octets, beside)?;
     match read_sessions(rt, alloc, &setup.plan, files, question) {
         Ok(reading) => Ok(reading),
-        Err(fault) => Err(by_reading(alloc, fault, setup)),
+        Err(fault) => Err(by_reading(alloc, fault, setup, &reached)),
     }
 }
 
@@ -261,7 +266,12 @@ where
         bounds: outlines.bounds(),
         losses: query.span.losses,
     };
-    let files = open_files(rt, setup, reading, |file| file, outlines.slots())?;
+    let reached = Reached::first_of_each(alloc, setup)?;
+    let beside = Beside {
+        outlines: outlines.slots(),
+        reached: &reached,
+    };
+    let files = open_files(rt, setup, reading, |octets| octets, beside)?;
     match read_happenings(rt, alloc, &setup.plan, files, &question) {
         Ok(happenings) => {
             let from = if query.svg.is_some() {
@@ -272,7 +282,7 @@ where
             let asked = History::of(alloc, &question, client, from);
             Ok(fill_history(alloc, &setup.plan, happenings, asked)?)
         }
-        Err(fault) => Err(by_reading(alloc, fault, setup)),
+        Err(fault) => Err(by_reading(alloc, fault, setup, &reached)),
     }
 }
 

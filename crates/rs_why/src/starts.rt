@@ -4,7 +4,7 @@ use rs_explain::{Explanation, LastSaid};
 use rs_glass::{Answer, Answers};
 use rs_glass_shell::Unanswered;
 use rs_host::{FileFault, found_at, open};
-use rs_setup::Setup;
+use rs_setup::{Recording, Setup};
 use std::fs::Files;
 use std::io::Read;
 
@@ -37,8 +37,8 @@ pub(crate) fn starts<R: AllocGlobal + Files>(
 ) -> Result<Vec<Option<Start>>, Unanswered> {
     let mut starts = Vec::with_capacity(rt.alloc(), answers.peers.len())?;
     for (peer, answer) in answers.peers.iter().enumerate() {
-        let start = match setup.files.get(peer) {
-            Some(path) if never_announced(answer) => start_of(rt, path, until)?,
+        let start = match setup.recording(peer) {
+            Some(recording) if never_announced(answer) => start_of(rt, recording, until)?,
             _ => None,
         };
         starts.push(start).map_err(|_| Unanswered::Memory)?;
@@ -52,17 +52,30 @@ pub(crate) fn never_announced(answer: &Answer) -> bool {
         && matches!(answer.said.last, LastSaid::NeverAnnounced)
 }
 
-// Since when the recording at a path runs.
+// Since when a recording runs.
 fn start_of<R: AllocGlobal + Files>(
     rt: &R,
-    path: &str,
+    recording: Recording<'_>,
     until: Option<u32>,
 ) -> Result<Option<Start>, Unanswered> {
-    match (first_time(rt, path)?, until) {
+    match (first_time_of(rt, recording)?, until) {
         (None, _) => Ok(None),
         (Some(time), Some(until)) if time > until => Ok(Some(Start::Later(time))),
         (Some(time), _) => Ok(Some(Start::InTime(time))),
     }
+}
+
+// The Timestamp of the first record of a recording, whose first files may have none.
+fn first_time_of<R: AllocGlobal + Files>(
+    rt: &R,
+    recording: Recording<'_>,
+) -> Result<Option<u32>, Unanswered> {
+    for place in 0..recording.count() {
+        if let Some(time) = first_time(rt, recording.path(place))? {
+            return Ok(Some(time));
+        }
+    }
+    Ok(None)
 }
 
 // The Timestamp of the first record of a file; none if the file is read only once, or has none.

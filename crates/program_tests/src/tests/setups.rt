@@ -2,7 +2,7 @@
 
 use super::check;
 use rs_choice::PeerSpec;
-use rs_setup::{Setup, read_setup};
+use rs_setup::{Recording, Setup, read_setup};
 use std::alloc::{AllocError, Global};
 use std::net::Ipv4Addr;
 use std::test::Fail;
@@ -11,6 +11,7 @@ use std::test::Fail;
 const EVERY_KEY: &str = r#"
 [[peer]]
 file = "recorded/a 1.mrt"
+begin = ["starts/a.mrt", "recorded/a 0.mrt"]
 refuse_from = ["c", "b", "c"]
 preference = 4294967295
 id = "0.0.0.1"
@@ -32,6 +33,7 @@ address = "255.255.255.255"
 id = "0.0.0.0"
 preference = 0
 refuse_from = []
+begin = []
 file = ""
 
 [[peer]]
@@ -46,9 +48,9 @@ file = "../c"
 
 // What it sets up. First the AS number, the address, the BGP Identifier and the subnet of the server, and `large` if
 // large communities count. Then for each peer the name, the AS number, the address, the BGP Identifier, the preference,
-// whose routes it refuses, and its file.
+// whose routes it refuses, its file, and the files that are read before that.
 const EVERY_KEY_SET_UP: &str = r#"64500 192.0.2.1 10.20.30.40 192.0.2.0/24 large
-a 4294967295 192.0.2.11 0.0.0.1 4294967295 ["c", "b", "c"] "recorded/a 1.mrt"
+a 4294967295 192.0.2.11 0.0.0.1 4294967295 ["c", "b", "c"] "recorded/a 1.mrt" ["starts/a.mrt", "recorded/a 0.mrt"]
 b 1 255.255.255.255 0.0.0.0 0 [] ""
 c 64503 192.0.2.13 192.0.2.11 101 ["a"] "../c""#;
 
@@ -108,8 +110,12 @@ fn push_server(text: &mut String, setup: &Setup) -> Result<(), AllocError> {
     Ok(())
 }
 
-// Appends a peer and its file.
-fn push_peer(text: &mut String, peer: &PeerSpec, file: &str) -> Result<(), AllocError> {
+// Appends a peer and its recording.
+fn push_peer(
+    text: &mut String,
+    peer: &PeerSpec,
+    recording: Option<Recording<'_>>,
+) -> Result<(), AllocError> {
     let (name, asn, preference) = (&peer.name, peer.asn, peer.preference);
     let (address, id) = (
         Ipv4Addr::from_bits(peer.address),
@@ -118,16 +124,23 @@ fn push_peer(text: &mut String, peer: &PeerSpec, file: &str) -> Result<(), Alloc
     let refused = &peer.refuse_from;
     write!(
         text,
-        "\n{name} {asn} {address} {id} {preference} {refused:?} {file:?}"
-    )
+        "\n{name} {asn} {address} {id} {preference} {refused:?}"
+    )?;
+    let Some(recording) = recording else {
+        return text.push_str(" no recording");
+    };
+    write!(text, " {:?}", recording.file)?;
+    if recording.count() > 1 {
+        write!(text, " {:?}", recording.begin)?;
+    }
+    Ok(())
 }
 
 // Appends all that is set up.
 fn push_all(text: &mut String, setup: &Setup) -> Result<(), AllocError> {
     push_server(text, setup)?;
     for number in 0..setup.plan.count() {
-        let file = setup.files.get(number).map(|file| file.as_str());
-        push_peer(text, setup.plan.peer(number), file.unwrap_or("no file"))?;
+        push_peer(text, setup.plan.peer(number), setup.recording(number))?;
     }
     Ok(())
 }

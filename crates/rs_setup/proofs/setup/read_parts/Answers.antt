@@ -17,4 +17,5 @@ returns c = (
     peers = rw c.in_ok-import.ensures.peers c.in_ok-peers.ensures.lists;
     configured = rw c.in_ok-import.ensures.peers c.in_ok-import.ensures.configured;
   },
+  c.in_ok-peers.ensures.begins,
 )

@@ -5,7 +5,7 @@ use Rattle.rs_setup.proofs.setup.read_whole_setup.Goals as goal
 
 pub returns-clause-setup : goal.returns-clause-setup
 returns-clause-setup g c =
-    let (table, is, set_up, import) = c.in_ok-parts.ensures in (
+    let (table, is, set_up, import, begins) = c.in_ok-parts.ensures in (
       table,
       is,
       (
@@ -16,5 +16,8 @@ returns-clause-setup g c =
 
 pub returns-clause-lists : goal.returns-clause-lists
 returns-clause-lists g c =
-    let (table, is, set_up, import) = c.in_ok-parts.ensures in
+    let (table, is, set_up, import, begins) = c.in_ok-parts.ensures in
     (table, is, (c.in_ok-parts.parts.import, import, c.in_ok-lists.ensures))
+
+pub returns-clause-begins : goal.returns-clause-begins
+returns-clause-begins g c = let (table, is, set_up, import, begins) = c.in_ok-parts.ensures in (table, is, begins)
