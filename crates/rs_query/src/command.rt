@@ -322,7 +322,7 @@ const FILES_BEHIND: Row = Row {
     takes: Takes::PathsBehind,
     given: Given::Often,
     tie: Tie::With("toml"),
-    help: "Recorded files that the configuration reads behind those, in this order",
+    help: "Recorded files that the configuration names behind, in this order",
 };
 
 const FROM: Row = Row {
