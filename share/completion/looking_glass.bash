@@ -6,7 +6,7 @@ _looking_glass() {
         return
     fi
     case $before in
-        --config | --table | --out | --svg) compopt -o filenames; mapfile -t COMPREPLY < <(compgen -f -- "$word"); return ;;
+        --config | --table | --out | --svg | --file) compopt -o filenames; mapfile -t COMPREPLY < <(compgen -f -- "$word"); return ;;
         --errors) mapfile -t COMPREPLY < <(compgen -W "rfc4271 rfc7606" -- "$word"); return ;;
         --losses) mapfile -t COMPREPLY < <(compgen -W "recorded inferred" -- "$word"); return ;;
         --tail) mapfile -t COMPREPLY < <(compgen -W "strict lenient" -- "$word"); return ;;
@@ -22,9 +22,9 @@ _looking_glass() {
         summary) options="--config --until --shards --errors --losses --csv --json --help" ;;
         page) options="--config --out --until --shards --errors --losses --help" ;;
         diff) options="--config --client --until --errors --losses --count --shards --csv --json --help" ;;
-        peers) options="--json --toml --help" ;;
+        peers) options="--json --toml --file --help" ;;
         check) options="--config --until --tail --errors --losses --help" ;;
-        start) options="--table --out --peer --at --toml --help" ;;
+        start) options="--table --out --peer --at --toml --file --help" ;;
     esac
     if [ "${COMP_WORDS[1]}" = peers ] && [[ $word != -* ]]; then
         compopt -o filenames

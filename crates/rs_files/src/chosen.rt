@@ -3,6 +3,7 @@
 //! Our choice: the last whole one, or the last whole one up to a time. The file is read twice: first to find its tables. So
 //! it is a file on a disk; of a pipe only one table is read.
 
+use crate::listed::Table;
 use crate::table_faults::{by_table, none_until};
 use rs_glass_shell::Unanswered;
 use rs_host::{Unready, Utc, open_file};
@@ -74,20 +75,27 @@ fn tables_of<R: AllocGlobal + Files>(rt: &R, query: &StartQuery) -> Result<Table
     }
 }
 
-/// Adds the line of the table that is taken, behind a mark, if the file has several.
+/// Adds the line of the table that is taken, behind a mark, if the file has several, or if the table names a view.
 pub(crate) fn add_chosen_line(
     text: &mut String,
     mark: &str,
-    chosen: Chosen,
-    time: u32,
+    table: &Table,
 ) -> Result<(), AllocError> {
-    let count = chosen.count;
-    if count < 2 {
+    let (count, view) = (table.chosen.count, &table.view);
+    if count < 2 && view.is_empty() {
         return Ok(());
     }
-    let (number, time) = (chosen.place.saturating_add(1), Utc(time));
-    write!(text, "{mark}table {number} of {count}, of {time} UTC")?;
-    if !chosen.whole {
+    write!(text, "{mark}table")?;
+    if count > 1 {
+        let number = table.chosen.place.saturating_add(1);
+        write!(text, " {number} of {count},")?;
+    }
+    let time = Utc(table.time);
+    write!(text, " of {time} UTC")?;
+    if !view.is_empty() {
+        write!(text, ", view {view}")?;
+    }
+    if !table.chosen.whole {
         write!(text, "; the last one is cut short")?;
     }
     writeln!(text)

@@ -1,11 +1,12 @@
-//! A configuration to start from: each peer that gets a file.
+//! A configuration to start from: each peer that gets a file, with the files behind its session.
 
 use crate::chosen::add_chosen_line;
 use crate::listed::{Listed, Part, Table};
 use crate::peer_lines::{add_peer_line, add_table_line};
+use crate::recording_keys::{add_recording, recording};
 use crate::session_files::session_path;
 use crate::sessions::COLLECTOR_AS;
-use rs_glass_shell::{PeerNames, quoted};
+use rs_glass_shell::PeerNames;
 use rs_query::StartQuery;
 use rs_start::{Counts, IndexPeer, LeftOut};
 use std::alloc::{AllocError, Global};
@@ -21,7 +22,7 @@ pub(crate) fn as_toml(
 ) -> Result<String, AllocError> {
     let mut text = String::new(alloc);
     let mut names = PeerNames::new(alloc);
-    add_chosen_line(&mut text, "# ", table.chosen, table.time)?;
+    add_chosen_line(&mut text, "# ", table)?;
     add_server(&mut text, table.collector)?;
     for (listed, counts) in table.peers.iter().zip(counts) {
         add_listed(alloc, &mut text, &mut names, query, (listed, counts))?;
@@ -54,12 +55,12 @@ fn add_listed(
     let Part::Written(address) = listed.part else {
         return Ok(());
     };
-    let path = session_path(alloc, &query.out, address)?;
-    let path = quoted(alloc, &path)?;
     writeln!(text, "[[peer]]")?;
     names.add_name(text, listed.peer.asn)?;
     add_peer(text, &listed.peer, address)?;
-    writeln!(text, "file = {path}")
+    let session = session_path(alloc, &query.out, address)?;
+    let paths = recording(alloc, &[session], &query.behind)?;
+    add_recording(alloc, text, &paths)
 }
 
 // Adds the entry of the index for a peer with an address.

@@ -2,8 +2,8 @@
 //! sessions that a collector's table gives.
 //! All of it is our choice, but for JSON (RFC 8259) and TOML 1.0.
 //!
-//! Reading order: `recordings` (the whole answer), `recorded_file`, `listing_answer`, `listing_pieces` and `listing_toml`
-//! (what recorded files hold, as a text, as JSON and as a configuration). What a run would meet: `checking` (the whole
+//! Reading order: `recordings` (the whole answer), `recorded_file`, `listing_answer`, `listing_pieces`, `recording_keys` and
+//! `listing_toml` (what recorded files hold, as a text, as JSON and as a configuration). What a run would meet: `checking` (the whole
 //! answer), `refused` and `plan_words` (why it is refused), `unreadable`. Its lines: `found`, `import_lines` (those of
 //! import policy), `checked_peer` (those of a peer). What a line of a peer tells: `treated` (how many UPDATEs are treated
 //! as withdrawn) and `early_close` (where a session closes before the end of its file).
@@ -28,6 +28,7 @@ mod listing_toml;
 mod peer_lines;
 mod plan_words;
 mod recorded_file;
+mod recording_keys;
 mod recordings;
 mod refused;
 mod session_files;

@@ -17,6 +17,8 @@ pub(crate) struct Table {
     pub(crate) chosen: Chosen,
     /// The BGP Identifier of the collector.
     pub(crate) collector: u32,
+    /// The view that it names, on one line; empty if it names none.
+    pub(crate) view: String,
     /// The peers, in the order of the index.
     pub(crate) peers: Vec<Listed>,
 }

@@ -1,16 +1,14 @@
-//! Files as pieces of recordings: in which of them a peer has messages, and how they are joined.
+//! Files as pieces of recordings: in which of them a peer has records, and in which order they are read.
 //!
-//! Our choices: the pieces are in the order of their first times, whatever the order of the command line; of equal times, in
-//! that of the command line. A path below `/dev/fd/` or `/proc/self/fd/` names
-//! a file that is there only while the command runs, as a shell gives it for `<(..)`.
+//! Our choice: the pieces are in the order of their first times, whatever the order of the command line; of equal times, in
+//! that of the command line.
 
 use crate::recorded_file::RecordedFile;
-use rs_glass_shell::add_shell_word;
 use rs_inventory::{Inventory, PeerId, PeerRecords};
 use std::alloc::{AllocError, Global};
 use std::collections::BTreeMap;
 
-/// In which files peers have messages.
+/// In which files peers have records.
 #[derive(Drop)]
 pub(crate) struct Pieces {
     peers: BTreeMap<PeerId, Told>,
@@ -23,14 +21,11 @@ pub(crate) struct Pieces {
 struct Told {
     // The number of the first file of the command line in which it has messages.
     first: Option<usize>,
-    // In how many files it has messages.
+    // In how many files it has messages or changes of state.
     pieces: usize,
     // The BGP Identifier of its last OPEN, in the order of time.
     identifier: Option<u32>,
 }
-
-// How paths begin of files that are there only while the command runs.
-const TRANSIENT: [&str; 2] = ["/dev/fd/", "/proc/self/fd/"];
 
 impl Pieces {
     /// Those of these files, which are numbered in the order of the command line.
@@ -71,10 +66,10 @@ impl Pieces {
         }
     }
 
-    /// Whether a peer has messages in several files.
-    pub(crate) fn has_pieces(&self, peer: PeerId) -> bool {
+    // Whether a peer has records in several files, and messages among them.
+    fn has_pieces(&self, peer: PeerId) -> bool {
         match self.peers.get(&peer) {
-            Some(told) => told.pieces > 1,
+            Some(told) => told.pieces > 1 && told.first.is_some(),
             None => false,
         }
     }
@@ -84,30 +79,19 @@ impl Pieces {
         self.peers.get(&peer)?.identifier
     }
 
-    /// The command of a shell that joins the pieces among these files, by their first times, to a file of this name.
-    /// None if no file is a piece. If one of them is there only while the command runs, there is no command.
-    pub(crate) fn command(
+    /// The paths of the pieces among these files, by their first times; none if no file is a piece.
+    pub(crate) fn paths(
         &self,
         alloc: Global,
         files: &[RecordedFile],
-        joined: &str,
-    ) -> Result<Option<String>, AllocError> {
-        let mut words = String::new(alloc);
-        let mut nameless = false;
+    ) -> Result<Vec<String>, AllocError> {
+        let mut paths = Vec::new(alloc);
         for number in &self.order {
             if let Some(file) = self.piece(files, *number) {
-                words.push(' ')?;
-                add_shell_word(alloc, &mut words, &file.path)?;
-                nameless = nameless || is_transient(&file.path);
+                paths.push(file.path.clone()?)?;
             }
         }
-        if words.is_empty() {
-            return Ok(None);
-        }
-        if nameless {
-            return Ok(Some(format!(in alloc; "cat .. >{joined}")?));
-        }
-        Ok(Some(format!(in alloc; "cat{words} >{joined}")?))
+        Ok(paths)
     }
 
     // The file of a number, if it is a piece of a recording.
@@ -120,10 +104,10 @@ impl Pieces {
         }
     }
 
-    // Whether a file is a piece of a recording: a peer has messages in it and in another file.
-    fn has_piece(&self, inventory: &Inventory) -> bool {
+    /// Whether a file is a piece of a recording: a peer that has messages has records in it and in another file.
+    pub(crate) fn has_piece(&self, inventory: &Inventory) -> bool {
         for (peer, records) in inventory.peers() {
-            if records.messages() > 0 && self.has_pieces(*peer) {
+            if records.records() > 0 && self.has_pieces(*peer) {
                 return true;
             }
         }
@@ -152,21 +136,12 @@ fn told_with(told: Option<Told>, number: usize, records: &PeerRecords) -> Told {
         pieces: 0,
         identifier: None,
     });
-    if records.messages() > 0 {
+    if records.records() > 0 {
         told.pieces = told.pieces.saturating_add(1);
+    }
+    if records.messages() > 0 {
         told.first = Some(told.first.unwrap_or(number).min(number));
     }
     told.identifier = records.identifiers().last().copied().or(told.identifier);
     told
-}
-
-/// Whether a path, quoted or not, names a file that is there only while the command runs.
-pub(crate) fn is_transient(path: &str) -> bool {
-    let path = path.strip_prefix("\"").unwrap_or(path);
-    for front in TRANSIENT {
-        if path.starts_with(front) {
-            return true;
-        }
-    }
-    false
 }

@@ -1,20 +1,19 @@
 //! Inventories as a configuration to start from: each peer of which a message is recorded, with its file.
 //!
 //! Our choices: the server is the recorder that the first file with messages names. A peer is named after its AS
-//! number. An address that stands twice is a comment the second time, since no two peers have the same. Files in which
-//! one peer has messages are pieces of one recording, in the order of their first times: the peer stands once, with the
-//! file that they make when they are joined. A file that is there only while the command runs is no peer's file.
+//! number. An address that stands twice is a comment the second time, since no two peers have the same. Files with records
+//! of one peer are pieces of one recording, in the order of their first times. A peer of a piece stands once, with all
+//! pieces, so that a loss counts too that stands alone in one. Each recording goes on in the files behind, which are not
+//! read here.
 
-use crate::listing_pieces::{Pieces, is_transient};
+use crate::listing_pieces::Pieces;
 use crate::recorded_file::RecordedFile;
+use crate::recording_keys::{add_recording, recording};
 use rs_glass_shell::{PeerNames, quoted};
 use rs_inventory::{PeerId, PeerRecords};
 use std::alloc::{AllocError, Global};
 use std::collections::BTreeSet;
 use std::net::Ipv4Addr;
-
-// The file that the pieces of a recording make when they are joined.
-const JOINED: &str = "joined.mrt";
 
 // A configuration that is being written.
 #[derive(Drop)]
@@ -29,8 +28,12 @@ struct Configuration {
 }
 
 /// A configuration to start from, with the peers of all files of which a message of a session with four-octet AS
-/// numbers is recorded. If no file has any, it has comments alone.
-pub fn as_toml(alloc: Global, files: &[RecordedFile]) -> Result<String, AllocError> {
+/// numbers is recorded. Their recordings go on in the files at the paths behind. If no file has any, it has comments alone.
+pub fn as_toml(
+    alloc: Global,
+    files: &[RecordedFile],
+    behind: &[String],
+) -> Result<String, AllocError> {
     let mut configuration = Configuration {
         text: String::new(alloc),
         pieces: Pieces::of(alloc, files)?,
@@ -38,9 +41,13 @@ pub fn as_toml(alloc: Global, files: &[RecordedFile]) -> Result<String, AllocErr
         names: PeerNames::new(alloc),
     };
     configuration.add_server(files)?;
-    configuration.add_join(alloc, files)?;
+    let pieces = configuration.pieces.paths(alloc, files)?;
+    if !pieces.is_empty() {
+        configuration.add_order()?;
+    }
+    let joined = recording(alloc, &pieces, behind)?;
     for (number, file) in files.iter().enumerate() {
-        configuration.add_file(alloc, number, file)?;
+        configuration.add_file(alloc, number, file, (&joined, behind))?;
     }
     Ok(configuration.text)
 }
@@ -65,41 +72,45 @@ impl Configuration {
         writeln!(self.text, "address = \"{address}\"")
     }
 
-    // Adds how the pieces of a recording are joined, if there are any.
-    fn add_join(&mut self, alloc: Global, files: &[RecordedFile]) -> Result<(), AllocError> {
-        let Some(command) = self.pieces.command(alloc, files, JOINED)? else {
-            return Ok(());
-        };
+    // Adds in which order the pieces of recordings are read.
+    fn add_order(&mut self) -> Result<(), AllocError> {
         writeln!(self.text)?;
         writeln!(
             self.text,
-            "# Peers are recorded in several files. Join them in the order of time, and read the joined file:"
-        )?;
-        writeln!(self.text, "#   {command}")
+            "# Peers are recorded in several files, which are read in the order of time."
+        )
     }
 
-    // Adds the peers of a file.
+    // Adds the peers of a file. Those of a piece have the paths of all joined.
     fn add_file(
         &mut self,
         alloc: Global,
         number: usize,
         file: &RecordedFile,
+        (joined, behind): (&[String], &[String]),
     ) -> Result<(), AllocError> {
         let path = quoted(alloc, &file.path)?;
+        let alone = recording(alloc, &[file.path.clone()?], behind)?;
+        let paths: &[String] = if self.pieces.has_piece(&file.inventory) {
+            joined
+        } else {
+            &alone
+        };
         for (peer, records) in file.inventory.peers() {
             if !self.pieces.is_told_elsewhere(number, *peer, records) {
-                self.add_peer(*peer, records, &path)?;
+                self.add_peer(alloc, *peer, records, (&path, paths))?;
             }
         }
         Ok(())
     }
 
-    // Adds a peer, or a comment if it can't be one.
+    // Adds a peer of the file at this path, quoted, whose recording has these paths. Adds a comment if it can't be one.
     fn add_peer(
         &mut self,
+        alloc: Global,
         peer: PeerId,
         records: &PeerRecords,
-        path: &str,
+        (path, paths): (&str, &[String]),
     ) -> Result<(), AllocError> {
         let address = Ipv4Addr::from_bits(peer.address);
         let asn = peer.asn;
@@ -122,21 +133,7 @@ impl Configuration {
         writeln!(self.text, "as = {asn}")?;
         writeln!(self.text, "address = \"{address}\"")?;
         self.add_identifier(peer)?;
-        self.add_path(peer, path)
-    }
-
-    // Adds the file of a peer: that of its pieces, joined; of a file that is there only for now a comment.
-    fn add_path(&mut self, peer: PeerId, path: &str) -> Result<(), AllocError> {
-        if self.pieces.has_pieces(peer) {
-            writeln!(self.text, "file = \"{JOINED}\"")
-        } else if is_transient(path) {
-            writeln!(
-                self.text,
-                "# file: name the recorded file here; {path} was there for this command alone"
-            )
-        } else {
-            writeln!(self.text, "file = {path}")
-        }
+        add_recording(alloc, &mut self.text, paths)
     }
 
     // Adds the BGP Identifier of a peer's last OPEN.

@@ -9,8 +9,8 @@ use rs_start::{Counts, LeftOut};
 use std::alloc::{AllocError, Global};
 use std::net::Ipv4Addr;
 
-/// A line for the table that is taken, if there are several, and one for each peer that is asked for. The last line
-/// is for what is left out of the table otherwise.
+/// A line for the table that is taken, if there are several or it names a view, and one for each peer that is asked for.
+/// The last line is for what is left out of the table otherwise.
 pub(crate) fn as_text(
     alloc: Global,
     query: &StartQuery,
@@ -19,7 +19,7 @@ pub(crate) fn as_text(
     left_out: &LeftOut,
 ) -> Result<String, AllocError> {
     let mut text = String::new(alloc);
-    add_chosen_line(&mut text, "", table.chosen, table.time)?;
+    add_chosen_line(&mut text, "", table)?;
     for (listed, counts) in table.peers.iter().zip(counts) {
         add_peer_line(alloc, &mut text, "", query, (listed, counts))?;
     }

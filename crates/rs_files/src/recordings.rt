@@ -16,12 +16,17 @@ use std::fs::Files;
 /// What recorded files hold.
 pub fn peers<R: AllocGlobal + Files>(rt: &R, query: PeersQuery) -> Result<String, Unanswered> {
     let alloc = rt.alloc();
-    let PeersQuery { files, json, toml } = query;
+    let PeersQuery {
+        files,
+        behind,
+        json,
+        toml,
+    } = query;
     let held = recorded_files(rt, files)?;
     if json {
         Ok(as_json(alloc, &held)?)
     } else if toml {
-        Ok(as_toml(alloc, &held)?)
+        Ok(as_toml(alloc, &held, &behind)?)
     } else {
         Ok(as_text(alloc, &held)?)
     }

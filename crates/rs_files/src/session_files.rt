@@ -2,7 +2,8 @@
 //!
 //! Our choice: a session is written beside its place, to a part file. The part files take their places once all
 //! sessions are whole, so that a reader never finds a part of one. If something else than a file stands in a place, such
-//! as a link or a device, nothing is written. The same holds if the table stands there, or in the place of a part file.
+//! as a link or a device, nothing is written. The same holds if the table stands there or a file that a configuration reads
+//! behind the sessions, or one of these in the place of a part file.
 
 use crate::table_faults::unwritten;
 use rs_glass_shell::Unanswered;
@@ -50,7 +51,7 @@ pub(crate) fn create<R: AllocGlobal + Files>(
 ) -> Result<R::File, Unanswered> {
     let alloc = rt.alloc();
     let place = session_path(alloc, &query.out, address)?;
-    if !is_free(rt, &place, &query.table)? {
+    if !is_free(rt, &place, query)? {
         return Err(unwritten(alloc, &place));
     }
     let part = part_path(alloc, &place)?;
@@ -68,14 +69,18 @@ pub(crate) fn create<R: AllocGlobal + Files>(
 }
 
 // Whether a session may be put in a place: nothing is known to be there, or a file is. Neither that file nor the one
-// in the place of its part file may be the table at this path.
-fn is_free<R: AllocGlobal + Files>(rt: &R, place: &str, table: &str) -> Result<bool, AllocError> {
+// in the place of its part file may be the table or a file behind the sessions.
+fn is_free<R: AllocGlobal + Files>(
+    rt: &R,
+    place: &str,
+    query: &StartQuery,
+) -> Result<bool, AllocError> {
     match fs::symlink_metadata(rt, place) {
         Ok(found) if !found.is_file() => return Ok(false),
         Err(error) if error.kind() == ErrorKind::OutOfMemory => return Err(AllocError),
         _ => {}
     }
-    let read = files_read(rt, table, &[])?;
+    let read = files_read(rt, &query.table, &query.behind)?;
     Ok(!writes_over(rt, place, &read)?)
 }
 

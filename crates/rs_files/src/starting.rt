@@ -8,7 +8,7 @@ use crate::session_files::{SessionFile, put_in_place, remove_parts};
 use crate::sessions::{begin_sessions, counts_of};
 use crate::table_faults::{by_routes, by_table, none_until, second_table};
 use rs_glass_shell::{Reply, Unanswered, answer_with};
-use rs_host::{Unready, open_file};
+use rs_host::{Unready, on_one_line, open_file};
 use rs_mrt::Read;
 use rs_query::StartQuery;
 use rs_start::{Counts, LeftOut, TableEnd, TableReader};
@@ -74,10 +74,12 @@ fn table_of<R: AllocGlobal, F: Read>(
         return Err(Unanswered::NoPeer(format!(in alloc; "{address}")?));
     }
     let peers: Vec<Listed> = listed_peers(alloc, &index.peers, &query.peers)?;
+    let view = String::from_utf8_lossy(alloc, &index.view_name)?;
     Ok(Table {
         time,
         chosen,
         collector: index.collector,
+        view: on_one_line(alloc, &view)?,
         peers,
     })
 }

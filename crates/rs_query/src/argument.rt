@@ -21,6 +21,8 @@ pub(crate) enum Takes {
     Threads,
     // Paths, as arguments without a name.
     Paths,
+    // One path or more, which aren't empty, each time it is given.
+    PathsBehind,
 }
 
 // How often an option is given.
@@ -107,6 +109,10 @@ impl Row {
                 .value_name("FILE")
                 .num_args(1..)
                 .action(ArgAction::Append),
+            Takes::PathsBehind => self
+                .valued(arg, "FILE")
+                .num_args(1..)
+                .value_parser(ValueParser::NonEmptyString),
         }
     }
 

@@ -62,7 +62,7 @@ const COMMANDS: [Entry; 10] = [
     (
         "peers",
         "What is in recorded files: which peers, sessions and prefixes?",
-        &[FILES, JSON_OR_TOML, TOML],
+        &[FILES, FILES_BEHIND, JSON_OR_TOML, TOML],
     ),
     (
         "check",
@@ -72,7 +72,7 @@ const COMMANDS: [Entry; 10] = [
     (
         "start",
         "Writes the beginning of each peer's session, of a collector's table.",
-        &[TABLE, FOLDER, PEER, AT, TOML],
+        &[TABLE, FOLDER, PEER, AT, TOML, FILES_BEHIND],
     ),
     (
         "table",
@@ -310,11 +310,19 @@ const SVG: Row = Row {
 };
 
 const FILES: Row = Row {
-    name: "file",
+    name: "recorded",
     takes: Takes::Paths,
     given: Given::OnceOrMore,
     help: "Recorded files (MRT)",
     ..FLAG
+};
+
+const FILES_BEHIND: Row = Row {
+    name: "file",
+    takes: Takes::PathsBehind,
+    given: Given::Often,
+    tie: Tie::With("toml"),
+    help: "Recorded files that the configuration names behind, in this order",
 };
 
 const FROM: Row = Row {

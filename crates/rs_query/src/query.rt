@@ -105,6 +105,8 @@ pub struct HistoryQuery {
 pub struct PeersQuery {
     /// The paths of the files.
     pub files: Vec<String>,
+    /// The paths of the files that the configuration reads behind these.
+    pub behind: Vec<String>,
     /// Whether the answer is written as JSON.
     pub json: bool,
     /// Whether a configuration to start from is written.
@@ -137,6 +139,8 @@ pub struct StartQuery {
     pub at: Option<u32>,
     /// Whether a configuration to start from is written.
     pub toml: bool,
+    /// The paths of the files that the configuration reads behind the session of each peer.
+    pub behind: Vec<String>,
 }
 
 /// The routes of a client's table.

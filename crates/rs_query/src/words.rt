@@ -116,16 +116,9 @@ fn history_of(alloc: Global, matches: &ArgMatches<'_>) -> Result<HistoryQuery, W
 }
 
 fn peers_of(alloc: Global, matches: &ArgMatches<'_>) -> Result<PeersQuery, WordsFault> {
-    let mut files = Vec::new(alloc);
-    if let Some(paths) = matches.get_strs("file") {
-        for path in paths {
-            files
-                .push(String::from_str(alloc, path)?)
-                .map_err(|_| WordsFault::Memory)?;
-        }
-    }
     Ok(PeersQuery {
-        files,
+        files: texts(alloc, matches, "recorded")?,
+        behind: texts(alloc, matches, "file")?,
         json: matches.get_flag("json"),
         toml: matches.get_flag("toml"),
     })
@@ -158,6 +151,7 @@ fn start_of(alloc: Global, matches: &ArgMatches<'_>) -> Result<StartQuery, Words
         peers: peer_addresses(alloc, matches)?,
         at: time(alloc, matches, "at")?,
         toml: matches.get_flag("toml"),
+        behind: texts(alloc, matches, "file")?,
     })
 }
 
@@ -173,6 +167,23 @@ fn peer_addresses(alloc: Global, matches: &ArgMatches<'_>) -> Result<Vec<u32>, W
         }
     }
     Ok(addresses)
+}
+
+// The texts that are given for a name, in their order.
+fn texts(
+    alloc: Global,
+    matches: &ArgMatches<'_>,
+    name: &str,
+) -> Result<Vec<String>, WordsFault> {
+    let mut texts = Vec::new(alloc);
+    if let Some(values) = matches.get_strs(name) {
+        for value in values {
+            texts
+                .push(String::from_str(alloc, value)?)
+                .map_err(|_| WordsFault::Memory)?;
+        }
+    }
+    Ok(texts)
 }
 
 // The text of an option that `clap` gives a value.

@@ -86,10 +86,11 @@ passes_index old mid new place earlier r before takes is behind =
     }
 
 module _ {R : Type 0} (gives : R → List ℕ → ReadEnd → Type 0) where
-  pub reads_index : (old mid new : TableReading R) (r : MrtRecord) (place time collector : ℕ) (peers : List IndexPeer)
+  pub reads_index : (old mid new : TableReading R) (r : MrtRecord) (place time collector : ℕ) (name : List ℕ) (peers : List IndexPeer)
       → PassesOver (gives old.reader) (gives mid.reader) place place → Takes (gives mid.reader) (gives new.reader) (r ∷ [])
-      → part_of r ≡ Index → r.time ≡ time → IsIndex r.body collector peers → ReadsIndex gives old new place time collector peers
-  reads_index old mid new r place time collector peers before takes is_index time_is says =
+      → part_of r ≡ Index → r.time ≡ time → IsIndex r.body collector name peers
+      → ReadsIndex gives old new place time collector name peers
+  reads_index old mid new r place time collector name peers before takes is_index time_is says =
       record {
         before = before.records;
         index = r;
@@ -209,7 +210,7 @@ module _ {R W : Type 0} (gives : R → List ℕ → ReadEnd → Type 0) (taken :
 
   pub writes_table : (old new : TableReading R) (olds mids news : List (PeerSession W)) (end : TableEnd)
       → AddsAll gives taken old new olds mids end → AllEnd taken mids news [] → WritesTable gives taken old new olds news end
-  writes_table old new olds mids news end adds ends first place time collector peers index =
+  writes_table old new olds mids news end adds ends first place time collector name peers index =
       let now = adds.now in
       let all = index.before ++ index.index ∷ [] in
       let records = adds.adds.records in

@@ -143,17 +143,18 @@ module _ {R W : Type 0} (gives : R → List ℕ → ReadEnd → Type 0) (taken :
       Came (gives first.reader) (gives last.reader) octets × ((next : MrtRecord) × (after ≡ next ∷ []) × (part_of next ≡ Index))
 
   -- One table is in what a reader may have given, and the sessions have what the table has of each peer.
-  pub record Written (first last : TableReading R) (place time collector : ℕ) (peers : List IndexPeer)
+  pub record Written (first last : TableReading R) (place time collector : ℕ) (name : List ℕ) (peers : List IndexPeer)
       (olds news : List (PeerSession W)) (end : TableEnd) : Type 0 where
     pub octets : List ℕ
     pub after : List MrtRecord
     pub given : Given first last octets end after
     pub rows : List TableRow
-    pub is_table : IsTable octets place time collector peers rows after
+    pub is_table : IsTable octets place time collector name peers rows after
     pub all_end : AllEnd taken olds news rows
 
   -- whichever index was read before, one table is written
   abbrev pub WritesTable : TableReading R → TableReading R → List (PeerSession W) → List (PeerSession W) → TableEnd → Type 0
   WritesTable old new olds news end =
-      (first : TableReading R) (place time collector : ℕ) (peers : List IndexPeer)
-      → ReadsIndex gives first old place time collector peers → Written first new place time collector peers olds news end
+      (first : TableReading R) (place time collector : ℕ) (name : List ℕ) (peers : List IndexPeer)
+      → ReadsIndex gives first old place time collector name peers
+      → Written first new place time collector name peers olds news end

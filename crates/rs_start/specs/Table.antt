@@ -49,11 +49,15 @@ peer_at (kind ∷ octets) =
 abbrev pub name_len : List ℕ → ℕ
 name_len body = big_number 2 (drop 4 body)
 
+abbrev pub view_name : List ℕ → List ℕ
+view_name body = take (name_len body) (drop 6 body)
+
 abbrev pub behind_name : List ℕ → List ℕ
 behind_name body = drop (name_len body) (drop 6 body)
 
-pub record IsIndex (body : List ℕ) (collector : ℕ) (peers : List IndexPeer) : Type 0 where
+pub record IsIndex (body : List ℕ) (collector : ℕ) (name : List ℕ) (peers : List IndexPeer) : Type 0 where
   pub collector_is : collector ≡ big_number 4 body
+  pub name_is : name ≡ view_name body
   pub count : length peers ≡ big_number 2 (behind_name body)
   pub entries : Leads peer_at (drop 2 (behind_name body)) peers []
 

@@ -76,8 +76,8 @@ table_times records = map (λ r. r.time) (indexes_of records)
 -- One of the tables in a file. Its records are an index, after those of so many other tables, and then records that
 -- have these rows. Behind it there is nothing, or the index of the next table. Before the index of the first table
 -- there are only records of other kinds. Each record is whole.
-pub record IsTable (octets : List ℕ) (place time collector : ℕ) (peers : List IndexPeer) (rows : List TableRow)
-    (after : List MrtRecord) : Type 0 where
+pub record IsTable (octets : List ℕ) (place time collector : ℕ) (name : List ℕ) (peers : List IndexPeer)
+    (rows : List TableRow) (after : List MrtRecord) : Type 0 where
   pub before : List MrtRecord
   pub index : MrtRecord
   pub behind : List MrtRecord
@@ -87,7 +87,7 @@ pub record IsTable (octets : List ℕ) (place time collector : ℕ) (peers : Lis
   pub others : place ≡ 0 → AllByRecursion IsOther before
   pub is_index : part_of index ≡ Index
   pub time_is : index.time ≡ time
-  pub says : IsIndex index.body collector peers
+  pub says : IsIndex index.body collector name peers
   pub has : AllHave behind rows
 
 -- ---- the routes of a peer

@@ -46,7 +46,7 @@ Reads gives old new (Err fault) = Unit {0}
 -- The index of the table at a place was read, and the records before it, which are those of so many other tables.
 -- Before the index of the first table there are only records of other kinds.
 pub record ReadsIndex {R : Type 0} (gives : R → List ℕ → ReadEnd → Type 0) (old new : TableReading R)
-    (place time collector : ℕ) (peers : List IndexPeer) : Type 0 where
+    (place time collector : ℕ) (name : List ℕ) (peers : List IndexPeer) : Type 0 where
   pub before : List MrtRecord
   pub index : MrtRecord
   pub takes : Takes (gives old.reader) (gives new.reader) (before ++ index ∷ [])
@@ -54,4 +54,4 @@ pub record ReadsIndex {R : Type 0} (gives : R → List ℕ → ReadEnd → Type 
   pub others : place ≡ 0 → AllByRecursion IsOther before
   pub is_index : part_of index ≡ Index
   pub time_is : index.time ≡ time
-  pub says : IsIndex index.body collector peers
+  pub says : IsIndex index.body collector name peers

@@ -1,6 +1,6 @@
 //! The PEER_INDEX_TABLE record: whose routes a table has (RFC 6396, section 4.3.1).
 //!
-//! Our choices: the View Name has no effect, and octets behind the last peer entry are a fault.
+//! Our choices: the View Name is only shown, and octets behind the last peer entry are a fault.
 
 ghost use Rattle.std.specs.Prelude.{◌≡◌, ◌+◌, ◌≤◌, [], length, IfOk, IfSome};
 ghost use Rattle.std.specs.Option.{option_map};
@@ -26,6 +26,8 @@ pub struct IndexPeer {
 pub struct Index {
     /// The BGP Identifier of the collector.
     pub collector: u32,
+    /// The octets of the View Name; there are none if the table names no view.
+    pub view_name: Vec<u8>,
     /// The peers, which entries name by their places, from 0 on.
     pub peers: Vec<IndexPeer>,
 }
@@ -39,7 +41,8 @@ const COUNT_LEN: usize = 2;
 
 // Reads the body of a PEER_INDEX_TABLE record. A fault comes with how many octets of the body stand before it.
 pub(crate) fn read_index(alloc: Global, body: &[u8]) -> Result<Index, PartFault>
-    ensures { IfOk result (λ index. IsIndex body.now index.collector index.peers.items) }
+    ensures { IfOk result (λ index.
+        IsIndex body.now index.collector index.view_name.items index.peers.items) }
 {
     if body.len() < NAME_AT {
         return Err(PartFault::at(Broken::IndexCutShort, body.len()));
@@ -50,11 +53,16 @@ pub(crate) fn read_index(alloc: Global, body: &[u8]) -> Result<Index, PartFault>
     if behind.len() < name_len + COUNT_LEN {
         return Err(PartFault::at(Broken::IndexCutShort, body.len()));
     }
+    let view_name = Vec::from_slice(alloc, &behind[..name_len])?;
     let counted = &behind[name_len..];
     let count = usize::from(BigEndian::read_u16(counted));
     let entries = &counted[COUNT_LEN..];
     match read_peers(alloc, entries, count) {
-        Ok(peers) => Ok(Index { collector, peers }),
+        Ok(peers) => Ok(Index {
+            collector,
+            view_name,
+            peers,
+        }),
         Err(fault) => Err(fault.behind(body.len() - entries.len())),
     }
 }

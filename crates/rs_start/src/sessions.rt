@@ -78,7 +78,8 @@ impl<R: Read> TableReader<R> {
         left_out: &mut LeftOut,
     ) -> Result<(u32, Index), TableFault>
         ensures index { IfOk result (λ read.
-            ReadsIndex R.gives self.old self.new place read.0 read.1.collector read.1.peers.items) }
+            ReadsIndex R.gives self.old self.new place read.0 read.1.collector read.1.view_name.items
+            read.1.peers.items) }
     {
         let mut earlier = 0;
         for _record in 0..u64::MAX {
@@ -102,7 +103,8 @@ impl<R: Read> TableReader<R> {
     fn index_in(&self, head: &Head) -> Result<(u32, Index), TableFault>
         ensures time { IfOk result (λ read. read.0 ≡ head.now.time) }
         ensures index { IfOk result (λ read.
-            IsIndex (record_at head.now self.now.body).body read.1.collector read.1.peers.items) }
+            IsIndex (record_at head.now self.now.body).body read.1.collector read.1.view_name.items
+            read.1.peers.items) }
     {
         match read_index(self.alloc, self.body(head)) {
             Ok(index) => Ok((head.time, index)),

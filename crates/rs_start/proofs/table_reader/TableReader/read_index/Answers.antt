@@ -26,10 +26,12 @@ returns-then-earlier-place g c =
     c.loop-record.invariant.1 in
     let is_index : part_of r ≡ Index = sym c.part_by.ensures ∙ c.in-Index.is in
     record {
-      index = if_both (λ read. read.0 ≡ r.time) (λ read. IsIndex r.body read.1.collector read.1.peers.items)
-          (λ read. ReadsIndex gives first new place read.0 read.1.collector read.1.peers.items) c.index_in.result
-          (λ read time says. reads_index gives first old new r place read.0 read.1.collector read.1.peers.items passed takes is_index
-          (sym time) says)
+      index = if_both (λ read. read.0 ≡ r.time)
+          (λ read. IsIndex r.body read.1.collector read.1.view_name.items read.1.peers.items)
+          (λ read. ReadsIndex gives first new place read.0 read.1.collector read.1.view_name.items read.1.peers.items)
+          c.index_in.result
+          (λ read time says. reads_index gives first old new r place read.0 read.1.collector read.1.view_name.items
+          read.1.peers.items passed takes is_index (sym time) says)
           c.index_in.ensures.time c.index_in.ensures.index;
     }
 
