@@ -47,10 +47,7 @@ pub(crate) fn add_recording(
         } else {
             "begin, file: name the recorded files here"
         };
-        return writeln!(
-            text,
-            "# {what}; {path} was there for this command alone"
-        );
+        return writeln!(text, "# {what}; {path} was there for this command alone");
     }
     add_begin(alloc, text, begin)?;
     let last = quoted(alloc, last)?;

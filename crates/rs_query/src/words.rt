@@ -170,11 +170,7 @@ fn peer_addresses(alloc: Global, matches: &ArgMatches<'_>) -> Result<Vec<u32>, W
 }
 
 // The texts that are given for a name, in their order.
-fn texts(
-    alloc: Global,
-    matches: &ArgMatches<'_>,
-    name: &str,
-) -> Result<Vec<String>, WordsFault> {
+fn texts(alloc: Global, matches: &ArgMatches<'_>, name: &str) -> Result<Vec<String>, WordsFault> {
     let mut texts = Vec::new(alloc);
     if let Some(values) = matches.get_strs(name) {
         for value in values {
