@@ -59,7 +59,7 @@ fn add_listed(
     names.add_name(text, listed.peer.asn)?;
     add_peer(text, &listed.peer, address)?;
     let session = session_path(alloc, &query.out, address)?;
-    let paths = recording(alloc, &[session], &query.behind)?;
+    let paths = recording(alloc, &session, &query.behind)?;
     add_recording(alloc, text, &paths)
 }
 

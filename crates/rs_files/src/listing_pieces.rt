@@ -88,7 +88,7 @@ impl Pieces {
         let mut paths = Vec::new(alloc);
         for number in &self.order {
             if let Some(file) = self.piece(files, *number) {
-                paths.push(file.path.clone()?)?;
+                paths.push(String::from_str(alloc, &file.path)?)?;
             }
         }
         Ok(paths)

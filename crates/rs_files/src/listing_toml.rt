@@ -8,7 +8,7 @@
 
 use crate::listing_pieces::Pieces;
 use crate::recorded_file::RecordedFile;
-use crate::recording_keys::{add_recording, recording};
+use crate::recording_keys::{add_behind, add_recording, recording};
 use rs_glass_shell::{PeerNames, quoted};
 use rs_inventory::{PeerId, PeerRecords};
 use std::alloc::{AllocError, Global};
@@ -41,13 +41,13 @@ pub fn as_toml(
         names: PeerNames::new(alloc),
     };
     configuration.add_server(files)?;
-    let pieces = configuration.pieces.paths(alloc, files)?;
-    if !pieces.is_empty() {
+    let mut joined = configuration.pieces.paths(alloc, files)?;
+    if !joined.is_empty() {
         configuration.add_order()?;
     }
-    let joined = recording(alloc, &pieces, behind)?;
+    add_behind(alloc, &mut joined, behind)?;
     for (number, file) in files.iter().enumerate() {
-        configuration.add_file(alloc, number, file, (&joined, behind))?;
+        configuration.add_file(alloc, number, file, (joined.as_slice(), behind))?;
     }
     Ok(configuration.text)
 }
@@ -90,15 +90,15 @@ impl Configuration {
         (joined, behind): (&[String], &[String]),
     ) -> Result<(), AllocError> {
         let path = quoted(alloc, &file.path)?;
-        let alone = recording(alloc, &[file.path.clone()?], behind)?;
-        let paths: &[String] = if self.pieces.has_piece(&file.inventory) {
+        let alone = recording(alloc, &file.path, behind)?;
+        let paths = if self.pieces.has_piece(&file.inventory) {
             joined
         } else {
-            &alone
+            alone.as_slice()
         };
         for (peer, records) in file.inventory.peers() {
             if !self.pieces.is_told_elsewhere(number, *peer, records) {
-                self.add_peer(alloc, *peer, records, (&path, paths))?;
+                self.add_peer(alloc, *peer, records, (path.as_str(), paths))?;
             }
         }
         Ok(())

@@ -10,22 +10,26 @@ use std::alloc::{AllocError, Global};
 // How paths begin of files that are there only while the command runs.
 const TRANSIENT: [&str; 2] = ["/dev/fd/", "/proc/self/fd/"];
 
-/// The paths of a recording: those of its beginning, and those of the files behind it.
+/// The paths of a recording that begins in the file at one path, and goes on in the files behind.
 pub(crate) fn recording(
     alloc: Global,
-    beginning: &[String],
+    first: &str,
     behind: &[String],
 ) -> Result<Vec<String>, AllocError> {
-    let mut paths = Vec::with_capacity(alloc, beginning.len())?;
-    add_paths(&mut paths, beginning)?;
-    add_paths(&mut paths, behind)?;
+    let mut paths = Vec::new(alloc);
+    paths.push(String::from_str(alloc, first)?)?;
+    add_behind(alloc, &mut paths, behind)?;
     Ok(paths)
 }
 
-// Adds copies of some paths.
-fn add_paths(paths: &mut Vec<String>, more: &[String]) -> Result<(), AllocError> {
-    for path in more {
-        paths.push(path.clone()?)?;
+/// Adds the paths of the files behind.
+pub(crate) fn add_behind(
+    alloc: Global,
+    paths: &mut Vec<String>,
+    behind: &[String],
+) -> Result<(), AllocError> {
+    for path in behind {
+        paths.push(String::from_str(alloc, path)?)?;
     }
     Ok(())
 }
@@ -47,10 +51,7 @@ pub(crate) fn add_recording(
         } else {
             "begin, file: name the recorded files here"
         };
-        return writeln!(
-            text,
-            "# {what}; {path} was there for this command alone"
-        );
+        return writeln!(text, "# {what}; {path} was there for this command alone");
     }
     add_begin(alloc, text, begin)?;
     let last = quoted(alloc, last)?;

@@ -170,20 +170,16 @@ fn peer_addresses(alloc: Global, matches: &ArgMatches<'_>) -> Result<Vec<u32>, W
 }
 
 // The texts that are given for a name, in their order.
-fn texts(
-    alloc: Global,
-    matches: &ArgMatches<'_>,
-    name: &str,
-) -> Result<Vec<String>, WordsFault> {
-    let mut texts = Vec::new(alloc);
+fn texts(alloc: Global, matches: &ArgMatches<'_>, name: &str) -> Result<Vec<String>, WordsFault> {
+    let mut found = Vec::new(alloc);
     if let Some(values) = matches.get_strs(name) {
         for value in values {
-            texts
+            found
                 .push(String::from_str(alloc, value)?)
                 .map_err(|_| WordsFault::Memory)?;
         }
     }
-    Ok(texts)
+    Ok(found)
 }
 
 // The text of an option that `clap` gives a value.
