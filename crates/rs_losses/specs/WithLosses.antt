@@ -89,7 +89,7 @@ IsThere (Some r) = Unit {0}
 -- octets are those of the loss that this record tells of.
 pub record HoldsLoss (by : Losses) (put_in : Bool) (shown : Option MrtRecord)
     (stopped : Option (Result Bool SourceFault)) (who : Sought) (octets : List ℕ) : Type 0 where
-  pub same : put_in ≡ true → (r : MrtRecord) → shown ≡ Some r → octets ≡ loss_octets who r
+  pub same : put_in ≡ true → option_map (loss_octets who) shown ≡ Some octets
   pub inferred : put_in ≡ true → by ≡ losses.Inferred
   pub behind : put_in ≡ true → IsThere shown
   pub goes_on : put_in ≡ true → stopped ≡ None

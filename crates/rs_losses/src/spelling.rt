@@ -3,7 +3,6 @@
 ghost use Rattle.std.specs.Prelude.{◌≡◌};
 ghost use Rattle.rs_mrt.specs.Record.{record_of};
 ghost use Rattle.rs_losses.specs.Losses.{has_microseconds, loss_octets, loss_record};
-ghost use Rattle.rs_losses.specs.declared.losses.Sought.{Sought};
 
 use crate::losses::Sought;
 use byteorder::{BigEndian, ByteOrder};
@@ -45,24 +44,30 @@ pub(crate) fn loss_octets(who: Sought, tells: &Record<'_>) -> [u8; LOSS_OCTETS]
     octets
 }
 
-/// The loss that a record tells of, if these are its octets.
-pub(crate) fn loss_record<'a>(octets: &'a [u8; LOSS_OCTETS], tells: &Record<'_>) -> Record<'a>
-    ensures { (who : Sought) → octets.now ≡ loss_octets who (record_of tells.now)
-        → record_of result ≡ loss_record who (record_of tells.now) }
-{
-    if has_microseconds(tells) {
-        Record {
-            time: tells.time,
-            kind: BGP4MP_ET,
-            subtype: STATE_CHANGE_AS4,
-            body: octets,
-        }
-    } else {
-        Record {
-            time: tells.time,
-            kind: BGP4MP,
-            subtype: STATE_CHANGE_AS4,
-            body: &octets[MICROSECONDS_LEN..],
+impl Sought {
+    /// The loss of the peer that a record tells of. These are its octets.
+    pub(crate) fn loss_record<'a>(
+        self,
+        octets: &'a [u8; LOSS_OCTETS],
+        tells: &Record<'_>,
+    ) -> Record<'a>
+        requires { octets.now ≡ loss_octets self (record_of tells.now) }
+        ensures { record_of result ≡ loss_record self (record_of tells.now) }
+    {
+        if has_microseconds(tells) {
+            Record {
+                time: tells.time,
+                kind: BGP4MP_ET,
+                subtype: STATE_CHANGE_AS4,
+                body: octets,
+            }
+        } else {
+            Record {
+                time: tells.time,
+                kind: BGP4MP,
+                subtype: STATE_CHANGE_AS4,
+                body: &octets[MICROSECONDS_LEN..],
+            }
         }
     }
 }

@@ -15,7 +15,7 @@ ghost use Rattle.rs_losses.specs.WithLosses.{octets_first, room_by, shown_by, so
 use crate::following::Followed;
 use crate::losses::Sought;
 use crate::puts_in::PutsIn;
-use crate::spelling::{LOSS_OCTETS, loss_octets, loss_record};
+use crate::spelling::{LOSS_OCTETS, loss_octets};
 use rs_mrt::{HEADER_LEN, Losses, READ_LIMIT, Record, Source, SourceFault};
 use std::marker::Model;
 
@@ -109,8 +109,9 @@ impl<S: Source> WithLosses<S> {
         };
         let (lost, followed) = self.followed.meet(&record);
         let octets = if lost {
-            self.octets = loss_octets(self.followed.who, &record);
-            octets_of(Some(loss_record(&self.octets, &record)))
+            let who = self.followed.who;
+            self.octets = loss_octets(who, &record);
+            octets_of(Some(who.loss_record(&self.octets, &record)))
         } else {
             octets_of(Some(record))
         };
@@ -169,7 +170,7 @@ impl<S: Source> Source for WithLosses<S> {
         }
         let record = self.source.shown()?;
         if self.put_in {
-            return Some(loss_record(&self.octets, &record));
+            return Some(self.followed.who.loss_record(&self.octets, &record));
         }
         Some(record)
     }
