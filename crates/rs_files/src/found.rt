@@ -82,16 +82,27 @@ fn write_records<W: fmt::Write>(
     let count = records.records();
     write!(f, "{path}: records {count}")?;
     let course = records.course();
-    if let (Some(first), Some(last)) = (course.first, course.last) {
+    if let (Some(first), Some(last)) = (course.first_read, course.last_read) {
         let (first, last) = (Utc(first), Utc(last));
         write!(f, ", {first} to {last} UTC")?;
     }
-    let (sessions, faulty) = (records.sessions().len(), records.faulty());
+    let (sessions, faulty) = (sessions_in(records), records.faulty());
     write!(f, ", sessions {sessions}, faulty {faulty}")?;
     if let Some(treated) = treated {
         write!(f, ", treated as withdrawn {treated}")?;
     }
     Ok(())
+}
+
+// How many sessions changes of state and losses show; those that UPDATEs alone show don't count.
+fn sessions_in(records: &PeerRecords) -> usize {
+    let mut count: usize = 0;
+    for session in records.sessions() {
+        if !session.shown {
+            count = count.saturating_add(1);
+        }
+    }
+    count
 }
 
 /// Adds the line of what is found of the peer of a name.

@@ -226,7 +226,9 @@ fn hand_peer(row: &mut RowWriter<'_>, peer: PeerId, records: &PeerRecords) {
     );
     row.end_row();
     for session in records.sessions() {
-        row.lines(session_lines(alloc, peer, *session));
+        if !session.shown {
+            row.lines(session_lines(alloc, peer, *session));
+        }
     }
 }
 
@@ -255,13 +257,15 @@ fn identifiers_text(alloc: Global, identifiers: &[u32]) -> Result<String, AllocE
     Ok(text)
 }
 
-// The sessions, in order.
+// The sessions that changes of state and losses show, in order.
 fn sessions_value(alloc: Global, sessions: &[SessionTimes]) -> Result<Value, AllocError> {
     let mut list = RowWriter::objects(alloc);
     for session in sessions {
-        list.number_or_none("up", session.up);
-        list.number_or_none("down", session.down);
-        list.end_row();
+        if !session.shown {
+            list.number_or_none("up", session.up);
+            list.number_or_none("down", session.down);
+            list.end_row();
+        }
     }
     list.into_value()
 }

@@ -13,7 +13,7 @@ use Rattle.rs_table.specs.Left.{BecomeBy}
 use Rattle.rs_session.specs.Change.{is_close}
 use Rattle.rs_glass.specs.Behind.{each_behind}
 use Rattle.rs_glass.specs.Explained.{best_from}
-use Rattle.rs_glass.specs.Causes.{loss_of_cause}
+use Rattle.rs_glass.specs.Causes.{cause_known, loss_of_cause}
 use Rattle.rs_glass.specs.declared.cause.Cause.{Cause}
 use Rattle.rs_glass.specs.declared.cause.Cause.TheVariants as causes
 use Rattle.rs_glass.specs.declared.happened.Happening.{Happening}
@@ -104,7 +104,7 @@ gets_by true tables client prefix one =
       time = one.time;
       microseconds = one.microseconds;
       peer = one.peer;
-      event = event_of (body_of one.word.body) one.cause;
+      event = event_of (body_of one.word.body) (cause_known one.put_in one.cause);
       best = best_for tables client prefix;
     })
 

@@ -4,7 +4,7 @@
 ghost use Rattle.std.specs.Prelude.{◌≡◌, IfOk};
 ghost use Rattle.rs_mrt.specs.Record.{record_of};
 ghost use Rattle.rs_session.specs.Change.{change_of};
-ghost use Rattle.rs_glass.specs.Causes.{cause_by};
+ghost use Rattle.rs_glass.specs.Causes.{cause_by, cause_known};
 
 use crate::loss::{Loss, loss_of};
 use crate::treated::{Treated, treated_of};
@@ -37,5 +37,16 @@ pub(crate) fn cause_of(
         )),
         Body::Down => Ok(loss_of(recorded).map(|loss| Cause::Lost(loss))),
         _ => Ok(None),
+    }
+}
+
+// Why a change came, if it is known whether its record was put in: then the loss is inferred.
+pub(crate) fn cause_known(put_in: bool, cause: Option<Cause>) -> Option<Cause>
+    ensures { result ≡ cause_known put_in cause }
+{
+    if put_in {
+        Some(Cause::Lost(Loss::Inferred))
+    } else {
+        cause
     }
 }

@@ -14,6 +14,7 @@ use crate::moment::Moment;
 use crate::question::Question;
 use crate::recording::{Recording, recordings};
 use rs_choice::Exchange;
+use rs_losses::PutsIn;
 use rs_mrt::{Source, SourceFault};
 use rs_session::{PeerId, Reason, Word};
 use rs_update::Errors;
@@ -35,6 +36,8 @@ pub struct Happening {
     pub word: Word,
     /// Why it changed, if the record says more than that.
     pub cause: Option<Cause>,
+    /// Whether the record was put in: then it is an inferred loss.
+    pub put_in: bool,
 }
 
 impl Happening {
@@ -56,7 +59,7 @@ impl Happening {
 ///
 /// Fails if memory is refused, or if a session closes because its records can't be read: its source answers that a read
 /// failed.
-pub fn read_happenings<T: Threads + Sync, S: Source + Send + Drop>(
+pub fn read_happenings<T: Threads + Sync, S: Source + PutsIn + Send + Drop>(
     rt: &T,
     alloc: Global,
     plan: &Exchange,
@@ -84,7 +87,7 @@ pub fn read_happenings<T: Threads + Sync, S: Source + Send + Drop>(
 }
 
 // What happened in the recorded session of a peer, in the order of its records.
-fn happenings_of<S: Source + Drop>(
+fn happenings_of<S: Source + PutsIn + Drop>(
     alloc: Global,
     recording: Recording<S>,
     question: &Question,
@@ -105,7 +108,7 @@ fn happenings_of<S: Source + Drop>(
 }
 
 // Takes what the next record says, or the close at the end of the records. Answers whether the session goes on.
-fn take_next<S: Source>(
+fn take_next<S: Source + PutsIn>(
     alloc: Global,
     listing: &mut Listing,
     source: &mut S,
@@ -129,8 +132,9 @@ fn take_next<S: Source>(
         }
         Err(SourceFault::Read) => return Err(GlassFault::Read(listing.peer)),
     }
+    let put_in = source.is_put_in();
     let Some(record) = source.shown() else {
         unreachable!();
     };
-    Ok(listing.take_record(alloc, errors, id, &record)?)
+    Ok(listing.take_record(alloc, errors, id, &record, put_in)?)
 }

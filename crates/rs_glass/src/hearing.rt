@@ -4,11 +4,11 @@ ghost use Rattle.std.specs.Prelude.{◌≡◌, IfErr, IfOk, OnOk, if◌then◌el
 ghost use Rattle.rs_session.specs.Change.{change_of};
 ghost use Rattle.rs_session.specs.Concerning.{concerns};
 ghost use Rattle.rs_table.specs.Left.{after};
-ghost use Rattle.rs_glass.specs.Causes.{cause_behind};
+ghost use Rattle.rs_glass.specs.Causes.{cause_behind, cause_known};
 ghost use Rattle.rs_glass.specs.Happened.{happens_on};
 ghost use Rattle.rs_glass.specs.Recorded.{IsFaultOf, IsSaidBefore, IsSaidOf};
 
-use crate::cause::{Cause, cause_of};
+use crate::cause::{Cause, cause_known, cause_of};
 use crate::covering::concerns;
 use crate::fault::GlassFault;
 use crate::listing::happens_on;
@@ -16,6 +16,7 @@ use crate::question::Question;
 use crate::recording::Recording;
 use crate::routes_left::RoutesLeft;
 use crate::said::{Said, is_failed_read};
+use rs_losses::PutsIn;
 use rs_mrt::Source;
 use rs_session::{PeerId, Session, Word};
 use rs_table::{left_after_one_more, left_by_last_changes, left_by_part};
@@ -32,7 +33,7 @@ pub(crate) struct Heard {
 }
 
 // Reads the recorded session of a peer.
-pub(crate) fn hear<S: Source + Drop>(
+pub(crate) fn hear<S: Source + PutsIn + Drop>(
     alloc: Global,
     recording: Recording<S>,
     question: &Question,
@@ -53,7 +54,7 @@ pub(crate) fn hear<S: Source + Drop>(
 // Reads the recorded session of a peer; a failed read is then the reason of the close. Changes that don't concern
 // the prefix are passed over. They change neither the answer for the prefix nor the routes on prefixes that cover
 // it.
-fn hear_changes<S: Source + Drop>(
+fn hear_changes<S: Source + PutsIn + Drop>(
     alloc: Global,
     id: PeerId,
     source: S,
@@ -78,22 +79,24 @@ fn hear_changes<S: Source + Drop>(
 }
 
 // Why the change came that a session gave last, if it is one on the prefix. No message is read again for the others.
-fn cause_shown<S: Source>(
+fn cause_shown<S: Source + PutsIn>(
     alloc: Global,
     session: &Session<S>,
     question: &Question,
     word: &Word,
 ) -> Result<Option<Cause>, AllocError>
     ensures { IfOk result (λ cause. happens_on question.now.prefix (change_of word.now) ≡ true
-        → cause ≡ cause_behind question.now.errors (S.shows session.now.source) (change_of word.now)) }
+        → cause ≡ cause_known (S.put_in session.now.source)
+        (cause_behind question.now.errors (S.shows session.now.source) (change_of word.now))) }
 {
     if !happens_on(word, question.prefix) {
         return Ok(None);
     }
-    match session.shown() {
-        Some(recorded) => cause_of(alloc, question.errors, word, &recorded),
-        None => Ok(None),
-    }
+    let cause = match session.shown() {
+        Some(recorded) => cause_of(alloc, question.errors, word, &recorded)?,
+        None => None,
+    };
+    Ok(cause_known(session.source().is_put_in(), cause))
 }
 
 // Takes one change if it concerns the prefix.

@@ -7,7 +7,7 @@ ghost use Rattle.rs_glass.specs.Histories.{IsHistory, Notes, TakesIf, best_for, 
 ghost use Rattle.rs_glass.specs.Histories.{gets_by, gets_content, is_before, is_open};
 
 use crate::answers::best_from;
-use crate::cause::Cause;
+use crate::cause::{Cause, cause_known};
 use crate::happened::Happening;
 use crate::loss::Loss;
 use crate::question::Question;
@@ -142,8 +142,9 @@ fn take(
         microseconds,
         word,
         cause,
+        put_in,
     } = happening;
-    let event = event_of(&word.body, cause)?;
+    let event = event_of(&word.body, cause_known(put_in, cause))?;
     tables.apply(peer, word)?;
     Ok(Some(Gets {
         time,

@@ -47,13 +47,14 @@ impl Listing {
         }
     }
 
-    // Takes what a record says to the session of the peer. Answers whether the session goes on.
+    // Takes what a record, which may be put in, says to the session of the peer. Answers whether the session goes on.
     pub(crate) fn take_record(
         &mut self,
         alloc: Global,
         errors: Errors,
         id: PeerId,
         recorded: &Record<'_>,
+        put_in: bool,
     ) -> Result<bool, AllocError>
         ensures lists { OnOk result (Lists self.old (said_of errors id (record_of recorded.now)) self.new) }
         ensures goes_on { IfOk result (GoesOnBy (effect_of errors id (record_of recorded.now))) }
@@ -61,11 +62,16 @@ impl Listing {
         match read_record(alloc, errors, id, recorded)? {
             Effect::PassesOver => Ok(true),
             Effect::Gives(changes) => {
-                self.take_changes(alloc, changes, recorded)?;
+                self.take_changes(alloc, changes, recorded, put_in)?;
                 Ok(true)
             }
             Effect::Ends(reason) => {
-                self.take(alloc, close_at(recorded.time, reason), Some(recorded))?;
+                self.take(
+                    alloc,
+                    close_at(recorded.time, reason),
+                    Some(recorded),
+                    put_in,
+                )?;
                 Ok(false)
             }
         }
@@ -76,7 +82,7 @@ impl Listing {
         ensures { OnOk result
             (Lists self.old (closing_at_end reason ∷ []) self.new) }
     {
-        self.take(alloc, close_at(0, reason), None)
+        self.take(alloc, close_at(0, reason), None, false)
     }
 
     // Takes the changes that a record gives.
@@ -85,12 +91,13 @@ impl Listing {
         alloc: Global,
         changes: Pending,
         recorded: &Record<'_>,
+        put_in: bool,
     ) -> Result<(), AllocError>
         ensures { OnOk result (Lists self.old (all_said_by (record_of recorded.now) changes) self.new) }
     {
         let mut left = changes;
         while let Some(word) = left.next()? {
-            self.take(alloc, word, Some(recorded))?;
+            self.take(alloc, word, Some(recorded), put_in)?;
         }
         Ok(())
     }
@@ -101,6 +108,7 @@ impl Listing {
         alloc: Global,
         word: Word,
         said_by: Option<&Record<'_>>,
+        put_in: bool,
     ) -> Result<(), AllocError>
         ensures { OnOk result (Lists self.old
             (record { change = change_of word; said_by = option_map (λ r. record_of r.now) said_by.entry } ∷ [])
@@ -115,6 +123,7 @@ impl Listing {
                 microseconds: self.latest.microseconds,
                 word,
                 cause,
+                put_in,
             })?;
         }
         Ok(())

@@ -2,7 +2,7 @@
 
 ghost use Rattle.std.specs.Prelude.{◌≡◌};
 ghost use Rattle.rs_mrt.specs.Record.{record_of};
-ghost use Rattle.rs_glass.specs.Losses.{changed, loss_by};
+ghost use Rattle.rs_glass.specs.Losses.{loss_by};
 
 use rs_mrt::{Entry, Record, entry};
 use std::fmt;
@@ -14,7 +14,7 @@ pub enum Loss {
     State(u16),
     /// The peer sent a NOTIFICATION (RFC 4271, section 4.5) with this error code and subcode.
     Notification(u8, u8),
-    /// No record of the peer has the loss. The loss was inserted before a record that shows it.
+    /// No record of the peer has the loss. The loss was inserted before a record that shows it, and its source knows that.
     Inferred,
 }
 
@@ -31,9 +31,6 @@ impl fmt::Display for Loss {
     }
 }
 
-// The new state of a loss that was put in: it is no state (RFC 6396, section 4.4.1).
-const NO_STATE: u16 = 0;
-
 // Where the error code and subcode stand in a NOTIFICATION (RFC 4271, section 4.5).
 const CODE_AT: usize = 19;
 
@@ -42,22 +39,11 @@ pub fn loss_of(recorded: &Record<'_>) -> Option<Loss>
     ensures { result ≡ loss_by (record_of recorded.now) }
 {
     match entry(recorded) {
-        Ok(Entry::State { new, .. }) => Some(changed(new)),
+        Ok(Entry::State { new, .. }) => Some(Loss::State(new)),
         Ok(Entry::Message { message, .. }) => match message.get(CODE_AT..) {
             Some([code, subcode, ..]) => Some(Loss::Notification(*code, *subcode)),
             _ => None,
         },
         _ => None,
-    }
-}
-
-// How a session was lost by a change of state to a new one.
-fn changed(new: u16) -> Loss
-    ensures { result ≡ changed new }
-{
-    if new == NO_STATE {
-        Loss::Inferred
-    } else {
-        Loss::State(new)
     }
 }

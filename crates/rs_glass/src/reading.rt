@@ -12,6 +12,7 @@ use crate::question::Question;
 use crate::recording::recordings;
 use crate::said::Said;
 use rs_choice::Exchange;
+use rs_losses::PutsIn;
 use rs_mrt::Source;
 use rs_table::Tables;
 use std::alloc::Global;
@@ -33,7 +34,7 @@ pub struct Reading {
 ///
 /// Fails if memory is refused, or if a session closes because its records can't be read: its source answers that a read
 /// failed.
-pub fn read_sessions<T: Threads + Sync, S: Source + Send + Drop>(
+pub fn read_sessions<T: Threads + Sync, S: Source + PutsIn + Send + Drop>(
     rt: &T,
     alloc: Global,
     plan: &Arc<Exchange>,

@@ -219,7 +219,7 @@ fn down_of(records: &PeerRecords) -> Option<Down> {
     }
     let has_states = records.state_changes() > 0;
     match records.sessions().last().and_then(|last| last.down) {
-        Some(time) if has_states || course.last == Some(time) => Some(Down::Since(time)),
+        Some(time) if has_states || course.lost => Some(Down::Since(time)),
         Some(_) => None,
         None if has_states && !course.inside => Some(Down::NotBegun),
         None => None,

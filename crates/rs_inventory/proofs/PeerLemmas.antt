@@ -10,9 +10,9 @@ use Rattle.rs_inventory.specs.Peer.{Told, announced_by, changing, counted, event
 use Rattle.rs_inventory.specs.Peer.{is_state_change, peer_content, with_counts, with_course, with_event, with_identifier, with_next}
 use Rattle.rs_inventory.specs.Peer.{with_session}
 use Rattle.rs_inventory.specs.Peer.{withdrawn_by}
-use Rattle.rs_inventory.specs.Sessions.{Event, Up, Down, sessions_of}
+use Rattle.rs_inventory.specs.Sessions.{Event, Up, Shown, Down, sessions_of}
 use Rattle.rs_inventory.proofs.CourseLemmas.{course-more}
-use Rattle.rs_inventory.proofs.SessionLemmas.{sessions_of-up, sessions_of-down}
+use Rattle.rs_inventory.proofs.SessionLemmas.{sessions_of-up, sessions_of-shown, sessions_of-down}
 
 -- a count that stopped stays so
 pub counted-more : (n m : ℕ) → counted (n + m) ≡ counted (counted n + m)
@@ -72,6 +72,7 @@ sessions-more : (events : List Event) (one : Option Event)
     → sessions_of (events ++ cons_option one []) ≡ with_event one (sessions_of events)
 sessions-more events None = ap sessions_of (append-nil events)
 sessions-more events (Some (Up time)) = sessions_of-up time events
+sessions-more events (Some (Shown time)) = sessions_of-shown time events
 sessions-more events (Some (Down time)) = sessions_of-down time events
 
 -- ---- a peer

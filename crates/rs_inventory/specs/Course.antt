@@ -39,6 +39,11 @@ is_start news.Down = true
 is_start news.State = true
 is_start other = false
 
+-- an OPEN with two-octet AS numbers is no record that a route server reads (our choice)
+abbrev pub is_read : News → Bool
+is_read (news.TwoOctetOpen identifier) = false
+is_read other = true
+
 -- the first of some records
 abbrev pub first_one : List Timed → Option Timed
 first_one [] = None
@@ -48,6 +53,16 @@ first_one (one ∷ later) = Some one
 abbrev pub begins_inside : Option Timed → Bool
 begins_inside None = false
 begins_inside (Some one) = not (is_start one.1)
+
+-- the time of the first of some records that a route server reads
+abbrev pub first_read_in : List Timed → Option ℕ
+first_read_in [] = None
+first_read_in (one ∷ later) = if is_read one.1 then Some one.0 else first_read_in later
+
+-- a record is there, and a session is lost with it
+abbrev pub loses : Option Timed → Bool
+loses None = false
+loses (Some one) = is_loss one.1
 
 -- ---- records in reverse order
 
@@ -68,9 +83,12 @@ unfoldable pub course_of : List Timed → Course
 course_of told = record {
   first = option_map (λ t. t.0) (first_one told);
   last = option_map (λ t. t.0) (first_one (reverse told));
+  first_read = first_read_in told;
+  last_read = first_read_in (reverse told);
   inside = begins_inside (first_one told);
   up = is_up (reverse told);
   again = again_at (reverse told);
+  lost = loses (first_one (reverse told));
 }
 
 -- ---- one more record
@@ -85,11 +103,19 @@ abbrev pub inside_with : News → Option ℕ → Bool → Bool
 inside_with one None inside = not (is_start one)
 inside_with one (Some first) inside = inside
 
+-- the first time of a record that is read, after one more record
+abbrev pub first_read_with : ℕ → News → Option ℕ → Option ℕ
+first_read_with time one None = if is_read one then Some time else None
+first_read_with time one (Some first) = Some first
+
 abbrev pub course_with : ℕ → News → Course → Course
 course_with time one c = record {
   first = Some (first_with time c.first);
   last = Some time;
+  first_read = first_read_with time one c.first_read;
+  last_read = if is_read one then Some time else c.last_read;
   inside = inside_with one c.first c.inside;
   up = if is_loss one then false else shows_up one || c.up;
   again = if is_loss one then None else if begins one && c.up then Some time else c.again;
+  lost = is_loss one;
 }

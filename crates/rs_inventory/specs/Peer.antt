@@ -2,7 +2,7 @@
 use Rattle.std.specs.Prelude.{◌≡◌, ℕ, ◌==◌, ◌^◌, ◌+◌, ◌-◌, min, Bool, true, false, if◌then◌else◌, List, [], ◌∷◌, ◌++◌}
 use Rattle.std.specs.Prelude.{length, slice_get, Option, Some, None, sum_by, count_by, filter_map}
 use Rattle.rs_inventory.specs.Course.{course_of, course_with}
-use Rattle.rs_inventory.specs.Sessions.{Event, Up, Down, sessions_of, with_end}
+use Rattle.rs_inventory.specs.Sessions.{Event, Up, Shown, Down, came_up, sessions_of, with_end, with_shown}
 use Rattle.rs_inventory.specs.declared.course.Course.{Course}
 use Rattle.rs_inventory.specs.declared.finding.News.{News}
 use Rattle.rs_inventory.specs.declared.finding.News.TheVariants as news
@@ -47,8 +47,10 @@ identifier_in (news.Open identifier) = Some identifier
 identifier_in (news.TwoOctetOpen identifier) = Some identifier
 identifier_in other = None
 
--- what a record says of a session; a NOTIFICATION ends a session too (RFC 4271, section 6.4)
+-- What a record says of a session. A NOTIFICATION ends a session too, and an UPDATE comes only of one that is up (RFC
+-- 4271, sections 6.4 and 8.2.2).
 abbrev pub event_at : ℕ → News → Option Event
+event_at time (news.Update announced withdrawn) = Some (Shown time)
 event_at time news.Notification = Some (Down time)
 event_at time news.Up = Some (Up time)
 event_at time news.Down = Some (Down time)
@@ -125,7 +127,8 @@ with_identifier one p = record p { identifiers = with_next p.identifiers (identi
 -- the sessions after one more event, if there is one
 abbrev pub with_event : Option Event → List SessionTimes → List SessionTimes
 with_event None sessions = sessions
-with_event (Some (Up time)) sessions = sessions ++ record { up = Some time; down = None } ∷ []
+with_event (Some (Up time)) sessions = sessions ++ came_up false time None ∷ []
+with_event (Some (Shown time)) sessions = with_shown time sessions
 with_event (Some (Down time)) sessions = with_end time sessions
 
 -- the sessions after one more record

@@ -5,7 +5,8 @@
 //! change from Established or a NOTIFICATION is its loss.
 
 ghost use Rattle.std.specs.Prelude.{◌≡◌, []};
-ghost use Rattle.rs_inventory.specs.Course.{begins, course_of, course_with, is_loss, is_start, shows_up};
+ghost use Rattle.rs_inventory.specs.Course.{begins, course_of, course_with, first_read_with, is_loss, is_read};
+ghost use Rattle.rs_inventory.specs.Course.{is_start, shows_up};
 
 use crate::finding::News;
 
@@ -16,6 +17,11 @@ pub struct Course {
     pub first: Option<u32>,
     /// The Timestamp of the last record; none if there is none.
     pub last: Option<u32>,
+    /// The Timestamp of the first record that a route server reads; none if there is none. It reads no OPEN with two-octet
+    /// AS numbers.
+    pub first_read: Option<u32>,
+    /// The Timestamp of the last record that a route server reads; none if there is none.
+    pub last_read: Option<u32>,
     /// Whether the first record is neither an OPEN nor a change of state: the recording begins in mid-session, and
     /// routes that were announced before are missing.
     pub inside: bool,
@@ -23,6 +29,8 @@ pub struct Course {
     pub up: bool,
     /// When the session began while it was up, the last time since its last loss: routes from before stay.
     pub again: Option<u32>,
+    /// Whether the last record is a loss.
+    pub lost: bool,
 }
 
 impl Course {
@@ -34,9 +42,12 @@ impl Course {
         Course {
             first: None,
             last: None,
+            first_read: None,
+            last_read: None,
             inside: false,
             up: false,
             again: None,
+            lost: false,
         }
     }
 
@@ -48,6 +59,12 @@ impl Course {
         Course {
             first: Some(self.first.unwrap_or(time)),
             last: Some(time),
+            first_read: first_read_with(time, news, self.first_read),
+            last_read: if news.is_read() {
+                Some(time)
+            } else {
+                self.last_read
+            },
             inside: match self.first {
                 Some(_) => self.inside,
                 None => !news.is_start(),
@@ -60,7 +77,19 @@ impl Course {
             } else {
                 self.again
             },
+            lost,
         }
+    }
+}
+
+// The first time of a record that is read, after one more record.
+fn first_read_with(time: u32, news: News, first: Option<u32>) -> Option<u32>
+    ensures { result ≡ first_read_with time news first }
+{
+    match first {
+        Some(first) => Some(first),
+        None if news.is_read() => Some(time),
+        None => None,
     }
 }
 
@@ -84,6 +113,13 @@ impl News {
         ensures { result ≡ is_loss self }
     {
         matches!(self, News::Notification | News::Down)
+    }
+
+    // Whether a route server reads it: all but an OPEN with two-octet AS numbers.
+    fn is_read(self) -> bool
+        ensures { result ≡ is_read self }
+    {
+        !matches!(self, News::TwoOctetOpen(_))
     }
 
     // Whether a recording of a session can begin with it.

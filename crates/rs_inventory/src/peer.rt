@@ -97,7 +97,7 @@ impl PeerRecords {
         Ok(())
     }
 
-    // Takes the beginning or the end of a session.
+    // Takes the beginning or the end of a session, or what shows that one is up.
     fn take_session(&mut self, time: u32, news: News) -> Result<(), AllocError>
         ensures { OnOk result (self.new ≡ with_session time news self.old) }
     {
@@ -105,6 +105,7 @@ impl PeerRecords {
             News::Up => self.sessions.comes_up(time),
             News::Down => self.sessions.goes_down(time),
             News::Notification => self.sessions.goes_down(time),
+            News::Update { .. } => self.sessions.shows_up(time),
             _ => Ok(()),
         }
     }
@@ -165,7 +166,7 @@ impl PeerRecords {
         &self.identifiers
     }
 
-    /// When its sessions came up and went down, in order.
+    /// When its sessions came up and went down, in order, those too which UPDATEs alone show.
     pub fn sessions(&self) -> &[SessionTimes]
         ensures { result.now ≡ self.now.sessions }
     {

@@ -1,12 +1,12 @@
-//! When the sessions of a peer came up and went down. Recorded changes of state (RFC 6396, section 4.4.1) and
-//! NOTIFICATIONs (RFC 4271, section 4.5) show it.
+//! When the sessions of a peer came up and went down. Recorded changes of state (RFC 6396, section 4.4.1),
+//! NOTIFICATIONs (RFC 4271, section 4.5) and UPDATEs show it.
 //!
-//! Our choices: a session comes up with a change to Established. If the next event is a loss, it ends the session. A
-//! loss before any other event ends a session that came up at a time that isn't recorded. A loss after a loss says
-//! nothing.
+//! Our choices: a session comes up with a change to Established. Behind a loss an UPDATE shows that another one is up, as
+//! of its time. If the next event is a loss, it ends the session. A loss before any other event ends a session that came
+//! up at a time that isn't recorded. A loss right after a loss says nothing.
 
-ghost use Rattle.std.specs.Prelude.{◌≡◌, [], ◌∷◌, ◌++◌, OnOk, Some, None};
-ghost use Rattle.rs_inventory.specs.Sessions.{ended_at, with_end};
+ghost use Rattle.std.specs.Prelude.{◌≡◌, [], ◌∷◌, ◌++◌, OnOk, None, false};
+ghost use Rattle.rs_inventory.specs.Sessions.{came_up, ended_at, is_ended, with_end, with_shown};
 
 use std::alloc::{AllocError, Global};
 use std::marker::Model;
@@ -18,6 +18,9 @@ pub struct SessionTimes {
     pub up: Option<u32>,
     /// When it went down: none if that isn't recorded.
     pub down: Option<u32>,
+    /// Whether no change to Established says that it came up. Behind a loss its first UPDATE, at the time `up`, shows that
+    /// it is up.
+    pub shown: bool,
 }
 
 impl SessionTimes {
@@ -29,6 +32,7 @@ impl SessionTimes {
             None => SessionTimes {
                 up: self.up,
                 down: Some(time),
+                shown: self.shown,
             },
             Some(_) => self,
         }
@@ -62,12 +66,27 @@ impl Sessions {
 
     /// A session came up.
     pub(crate) fn comes_up(&mut self, time: u32) -> Result<(), AllocError>
-        ensures { OnOk result (self.new ≡ self.old ++ record { up = Some time; down = None } ∷ []) }
+        ensures { OnOk result (self.new ≡ self.old ++ came_up false time None ∷ []) }
     {
         self.times.push(SessionTimes {
             up: Some(time),
             down: None,
+            shown: false,
         })?;
+        Ok(())
+    }
+
+    /// An UPDATE came, which shows that a session is up.
+    pub(crate) fn shows_up(&mut self, time: u32) -> Result<(), AllocError>
+        ensures { OnOk result (self.new ≡ with_shown time self.old) }
+    {
+        if is_ended(self.times.last().copied()) {
+            self.times.push(SessionTimes {
+                up: Some(time),
+                down: None,
+                shown: true,
+            })?;
+        }
         Ok(())
     }
 
@@ -79,6 +98,7 @@ impl Sessions {
             self.times.push(SessionTimes {
                 up: None,
                 down: Some(time),
+                shown: false,
             })?;
             return Ok(());
         };
@@ -91,5 +111,15 @@ impl Sessions {
         ensures { result.now ≡ self.now }
     {
         &self.times
+    }
+}
+
+// Whether there is a session and it went down.
+fn is_ended(last: Option<SessionTimes>) -> bool
+    ensures { result ≡ is_ended last }
+{
+    match last {
+        Some(last) => last.down.is_some(),
+        None => false,
     }
 }

@@ -1,5 +1,5 @@
 -- What is true of the definitions.
-use Rattle.std.specs.Prelude.{◌≡◌, ℕ, ◌^◌, ◌<◌, List}
+use Rattle.std.specs.Prelude.{◌≡◌, ◌^◌, ◌<◌, List}
 use Rattle.rs_mrt.specs.Record.{MrtRecord}
 use Rattle.rs_session.specs.Effect.{effect_of, loss}
 use Rattle.rs_update.specs.declared.errors.Errors.{Errors}
@@ -17,7 +17,7 @@ ShownAreThose =
     (who : Sought) (records : List MrtRecord) → IsSought who
     → losses_along (from_the_first who) records ≡ with_losses who records
 
--- the only meaning of a record that is inserted is that the session is lost
+-- the only meaning of a record that is inserted is that the session is lost, at the time of the record that tells of it
 abbrev pub LossIsJustALoss : Type 0
-LossIsJustALoss = (errors : Errors) (who : Sought) (time : ℕ) → IsSought who
-    → effect_of errors who.peer (loss_record who time) ≡ loss time
+LossIsJustALoss = (errors : Errors) (who : Sought) (r : MrtRecord) → IsSought who
+    → effect_of errors who.peer (loss_record who r) ≡ loss r.time

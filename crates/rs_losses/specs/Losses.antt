@@ -1,10 +1,11 @@
 -- Losses of a session that its recording does not have, but that other records show. The reason: a session that is
 -- Established again was Idle before (RFC 4271, section 8.2.2). Our choice: which records show a loss.
 use Rattle.std.specs.Prelude.{ℕ, Bool, false, not, ◌&&◌, ◌||◌, ◌==◌, if◌then◌else◌, List, [], ◌∷◌, ◌++◌, Option, Some}
-use Rattle.std.specs.Prelude.{None, filter_map}
+use Rattle.std.specs.Prelude.{None, filter_map, length, nat_le, take}
 use Rattle.std.specs.Option.{option_map}
 use Rattle.byteorder.specs.Endian.{big_bytes}
-use Rattle.rs_mrt.specs.Entry.{established, family_ipv4, subtype_state_change_as4, type_bgp4mp}
+use Rattle.rs_mrt.specs.Entry.{established, family_ipv4, microseconds_len, subtype_state_change_as4, type_bgp4mp}
+use Rattle.rs_mrt.specs.Entry.{type_bgp4mp_et}
 use Rattle.rs_mrt.specs.Record.{MrtRecord}
 use Rattle.rs_inventory.specs.Course.{Timed, begins, is_loss, is_up, shows_up}
 use Rattle.rs_inventory.specs.Finding.{is_peer, recorder_in}
@@ -95,24 +96,41 @@ before_record f r = record f { up = not (is_lost_before f r) && f.up }
 abbrev pub no_state : ℕ
 no_state = 0
 
--- The loss at a time: a BGP4MP_STATE_CHANGE_AS4 of the peer from Established (RFC 6396, section 4.4.4). Local AS,
--- Interface Index, Local IP Address and the new state are 0, which no recorded loss has (our choice).
-abbrev pub loss_record : Sought → ℕ → MrtRecord
-loss_record who time = record {
-  time = time;
-  kind = type_bgp4mp;
+-- a record of Type BGP4MP_ET begins its body with four octets of microseconds (RFC 6396, section 3)
+abbrev pub has_microseconds : MrtRecord → Bool
+has_microseconds r = (r.kind == type_bgp4mp_et) && nat_le microseconds_len (length r.body)
+
+-- the octets of a record's microseconds, if it has any
+abbrev pub microseconds_in : MrtRecord → List ℕ
+microseconds_in r = if has_microseconds r then take microseconds_len r.body else []
+
+-- The fields of a BGP4MP_STATE_CHANGE_AS4 of the peer from Established (RFC 6396, section 4.4.4). Local AS, Interface
+-- Index, Local IP Address and the new state are 0 (our choice).
+abbrev pub loss_fields : Sought → List ℕ
+loss_fields who =
+    big_bytes 4 who.peer.asn ++ big_bytes 4 0 ++ big_bytes 2 0 ++ big_bytes 2 family_ipv4 ++ big_bytes 4 who.peer.address
+    ++ big_bytes 4 0 ++ big_bytes 2 established ++ big_bytes 2 no_state
+
+-- The loss that a record tells of has the record's time, and the record's microseconds if there are any.
+abbrev pub loss_record : Sought → MrtRecord → MrtRecord
+loss_record who r = record {
+  time = r.time;
+  kind = if has_microseconds r then type_bgp4mp_et else type_bgp4mp;
   subtype = subtype_state_change_as4;
-  body = big_bytes 4 who.peer.asn ++ big_bytes 4 0 ++ big_bytes 2 0 ++ big_bytes 2 family_ipv4 ++ big_bytes 4 who.peer.address
-      ++ big_bytes 4 0 ++ big_bytes 2 established ++ big_bytes 2 no_state;
+  body = microseconds_in r ++ loss_fields who;
 }
 
--- The records, with a loss inserted before each record that shows one, at the time of that record. The records given
+-- the octets of its body, behind four zeros if the record has no microseconds
+abbrev pub loss_octets : Sought → MrtRecord → List ℕ
+loss_octets who r = (if has_microseconds r then take microseconds_len r.body else big_bytes 4 0) ++ loss_fields who
+
+-- The records, with a loss inserted before each record that shows one, at the moment of that record. The records given
 -- before, in reverse order, are those of the first list. A loss that was inserted counts among them.
 abbrev pub with_losses_behind : Sought → List MrtRecord → List MrtRecord → List MrtRecord
 with_losses_behind who given [] = []
 with_losses_behind who given (r ∷ later) =
     if shows_loss who given r
-    then loss_record who r.time ∷ r ∷ with_losses_behind who (r ∷ loss_record who r.time ∷ given) later
+    then loss_record who r ∷ r ∷ with_losses_behind who (r ∷ loss_record who r ∷ given) later
     else r ∷ with_losses_behind who (r ∷ given) later
 
 -- the records of a recording with the losses inserted

@@ -8,8 +8,8 @@ use Rattle.rs_mrt.specs.declared.fault.SourceFault.TheVariants.{Read}
 use Rattle.rs_mrt.specs.Record.{MrtRecord, octets_of}
 use Rattle.rs_mrt.specs.RecordReading.{read_limit}
 use Rattle.rs_mrt.specs.Source.{Advances, CountsFailure, SomethingComes, Stays, Stops}
-use Rattle.rs_losses.specs.Losses.{before_record, behind_record, from_the_first, is_lost_before, loss_record, lost}
-use Rattle.rs_losses.specs.Losses.{with_losses}
+use Rattle.rs_losses.specs.Losses.{before_record, behind_record, from_the_first, is_lost_before, loss_octets}
+use Rattle.rs_losses.specs.Losses.{loss_record, lost, with_losses}
 use Rattle.rs_losses.specs.declared.following.Followed.{Followed}
 use Rattle.rs_mrt.specs.declared.losses.Losses.{Losses}
 use Rattle.rs_mrt.specs.declared.losses.Losses.TheVariants as losses
@@ -22,7 +22,7 @@ abbrev pub losses_along : Followed → List MrtRecord → List MrtRecord
 losses_along f [] = []
 losses_along f (r ∷ later) =
     if is_lost_before f r
-    then loss_record f.who r.time ∷ r ∷ losses_along (behind_record (lost f) r) later
+    then loss_record f.who r ∷ r ∷ losses_along (behind_record (lost f) r) later
     else r ∷ losses_along (behind_record f r) later
 
 -- at the limit the one value, and else the other
@@ -60,7 +60,7 @@ unbegun source losses who =
 
 -- the loss before a record
 abbrev pub loss_before : Sought → Option MrtRecord → Option MrtRecord
-loss_before who shown = option_map (λ r. loss_record who r.time) shown
+loss_before who shown = option_map (loss_record who) shown
 
 -- the record that is shown, or the loss before it
 abbrev pub loss_or : Bool → Sought → Option MrtRecord → Option MrtRecord
@@ -85,11 +85,11 @@ abbrev pub IsThere : Option MrtRecord → Type 0
 IsThere None = ⊥
 IsThere (Some r) = Unit {0}
 
--- What is always true. The body is that of the peer's loss. A loss is shown only if losses are inferred. Then the
--- source shows the record behind it.
+-- What is always true of a loss that is shown. Losses are inferred, and the source shows the record behind the loss. The
+-- octets are those of the loss that this record tells of.
 pub record HoldsLoss (by : Losses) (put_in : Bool) (shown : Option MrtRecord)
-    (stopped : Option (Result Bool SourceFault)) (who : Sought) (body : List ℕ) : Type 0 where
-  pub same : body ≡ (loss_record who 0).body
+    (stopped : Option (Result Bool SourceFault)) (who : Sought) (octets : List ℕ) : Type 0 where
+  pub same : put_in ≡ true → option_map (loss_octets who) shown ≡ Some octets
   pub inferred : put_in ≡ true → by ≡ losses.Inferred
   pub behind : put_in ≡ true → IsThere shown
   pub goes_on : put_in ≡ true → stopped ≡ None
@@ -176,7 +176,7 @@ ComesFirst losses.Inferred who comes = ComesWith who comes
 
 -- what is shown first of a record that is met: the loss before it, or the record
 abbrev pub met_first : Bool → Sought → MrtRecord → MrtRecord
-met_first true who r = loss_record who r.time
+met_first true who r = loss_record who r
 met_first false who r = r
 
 -- how many octets that takes

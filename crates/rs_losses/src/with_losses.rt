@@ -8,17 +8,15 @@ ghost use Rattle.std.specs.Prelude.{◌≡◌, false, List, Option, None, Some};
 ghost use Rattle.std.specs.Option.{option_map};
 ghost use Rattle.rs_mrt.specs.declared.fault.SourceFault.{SourceFault};
 ghost use Rattle.rs_mrt.specs.Record.{MrtRecord, octets_of, record_of};
-ghost use Rattle.rs_losses.specs.Losses.{is_lost_before, loss_record};
 ghost use Rattle.rs_mrt.specs.declared.losses.Losses.TheVariants.{Inferred};
 ghost use Rattle.rs_losses.specs.WithLosses.{ComesBy, ComesFirst, GoesOn, IsFullBy, answer_within, counted, met};
 ghost use Rattle.rs_losses.specs.WithLosses.{octets_first, room_by, shown_by, something_comes, stopped_by, unbegun};
 
 use crate::following::Followed;
 use crate::losses::Sought;
-use crate::spelling::{BODY_LEN, LOSS_LEN, loss_body};
-use rs_mrt::{
-    BGP4MP, HEADER_LEN, Losses, READ_LIMIT, Record, STATE_CHANGE_AS4, Source, SourceFault,
-};
+use crate::puts_in::PutsIn;
+use crate::spelling::{LOSS_OCTETS, loss_octets};
+use rs_mrt::{HEADER_LEN, Losses, READ_LIMIT, Record, Source, SourceFault};
 use std::marker::Model;
 
 /// The records of another source, with the losses put in that they show. If only recorded losses are read it just
@@ -29,8 +27,8 @@ pub struct WithLosses<S: Source> {
     losses: Losses,
     // The session behind the record that the source shows.
     followed: Followed,
-    // The body of a record of the loss.
-    body: [u8; BODY_LEN],
+    // The octets of the loss that is shown.
+    octets: [u8; LOSS_OCTETS],
     // Whether the loss is shown that stands before the record of the source.
     put_in: bool,
     // How many octets are left, none once the limit was met.
@@ -51,7 +49,7 @@ impl<S: Source> Model for WithLosses<S> {
     } };
 
     ghost invariant = { λ w. HoldsLoss w.losses w.put_in (S.shows w.source) (S.stopped w.source)
-        w.followed.who w.body };
+        w.followed.who w.octets };
 }
 
 impl<S: Source> WithLosses<S> {
@@ -66,28 +64,9 @@ impl<S: Source> WithLosses<S> {
             source,
             losses,
             followed: Followed { who, up: false },
-            body: loss_body(who),
+            octets: [0; LOSS_OCTETS],
             put_in: false,
             left: READ_LIMIT,
-        }
-    }
-
-    /// Tells whether the record that is shown was put in.
-    pub fn is_put_in(&self) -> bool
-        ensures { result ≡ self.now.put_in }
-    {
-        self.put_in
-    }
-
-    // The loss at this time.
-    fn loss_at(&self, time: u32) -> Record<'_>
-        ensures { record_of result ≡ loss_record self.now.followed.who time }
-    {
-        Record {
-            time,
-            kind: BGP4MP,
-            subtype: STATE_CHANGE_AS4,
-            body: &self.body,
         }
     }
 
@@ -130,7 +109,9 @@ impl<S: Source> WithLosses<S> {
         };
         let (lost, followed) = self.followed.meet(&record);
         let octets = if lost {
-            LOSS_LEN
+            let who = self.followed.who;
+            self.octets = loss_octets(who, &record);
+            octets_of(Some(who.loss_record(&self.octets, &record)))
         } else {
             octets_of(Some(record))
         };
@@ -189,9 +170,17 @@ impl<S: Source> Source for WithLosses<S> {
         }
         let record = self.source.shown()?;
         if self.put_in {
-            return Some(self.loss_at(record.time));
+            return Some(self.followed.who.loss_record(&self.octets, &record));
         }
         Some(record)
+    }
+}
+
+impl<S: Source> PutsIn for WithLosses<S> {
+    ghost put_in = { λ w. w.put_in };
+
+    fn is_put_in(&self) -> bool {
+        self.put_in
     }
 }
 

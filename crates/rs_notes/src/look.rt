@@ -70,11 +70,7 @@ fn has_records(held: &Inventory, peer: PeerId) -> bool {
     }
 }
 
-// The time of the peer's first record, if some record is the peer's.
+// The time of the peer's first record that a route server reads, if there is one.
 fn first_of(held: &Inventory, peer: PeerId) -> Option<u32> {
-    let records = held.peers().get(&peer)?;
-    if records.records() == 0 {
-        return None;
-    }
-    records.course().first
+    held.peers().get(&peer)?.course().first_read
 }

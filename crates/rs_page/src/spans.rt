@@ -77,15 +77,13 @@ pub(crate) fn spans_of(
         let later = sessions.get(place..).unwrap_or(&[]);
         let ended = ended_by(&ends.losses, given, later);
         if let Some(ended) = ended {
-            add_unbegun(&mut spans, &ends.losses, (given, ended), close)?;
             given = ended.saturating_add(1);
         }
         let how = ended.and_then(|ended| how_at(&ends.losses, ended));
         let span = session(sessions[place], first, open, how);
         add_span(&mut spans, span, close)?;
     }
-    add_unbegun(&mut spans, &ends.losses, (given, ends.losses.len()), close)?;
-    match session_without_beginning(records, ends.since, until) {
+    match session_without_beginning(records, until) {
         Some(span) => add_span(&mut spans, span, close)?,
         None => {}
     }
@@ -179,59 +177,23 @@ fn repeats(losses: &[Lost], place: usize) -> bool {
     }
 }
 
-// Adds the sessions that ended with the losses from one place up to another and that no record begins: each is seen from
-// its first change on.
-fn add_unbegun(
-    spans: &mut Vec<Span>,
-    losses: &[Lost],
-    (from, to): (usize, usize),
-    close: Option<(u32, Reason)>,
-) -> Result<(), AllocError> {
-    for lost in losses.get(from..to).unwrap_or(&[]) {
-        if let Some(since) = lost.since {
-            let span = Span {
-                from: since,
-                to: lost.time,
-                end: End::Lost(lost.how),
-            };
-            add_span(spans, span, close)?;
-        }
-    }
-    Ok(())
-}
-
-// The last session, if no record says when it came up and none when it went down: it has messages behind the last
-// loss. It is seen from its first change on.
-fn session_without_beginning(
-    records: &PeerRecords,
-    since: Option<u32>,
-    until: u32,
-) -> Option<Span> {
+// The only session, if no record says when it came up or went down: there are just messages.
+fn session_without_beginning(records: &PeerRecords, until: u32) -> Option<Span> {
     let course = records.course();
     let (first, last) = (course.first?, course.last?);
+    if !records.sessions().is_empty() || records.messages() == 0 {
+        return None;
+    }
     let (to, end) = if course.up {
         (until, End::Up)
     } else {
         (last, End::Unrecorded)
     };
-    match records.sessions().last() {
-        None if records.messages() > 0 => Some(Span {
-            from: first,
-            to,
-            end,
-        }),
-        Some(
-            SessionTimes {
-                down: Some(down),
-                ..
-            },
-        ) if course.up => Some(Span {
-            from: since.unwrap_or(*down),
-            to,
-            end,
-        }),
-        _ => None,
-    }
+    Some(Span {
+        from: first,
+        to,
+        end,
+    })
 }
 
 // Adds a span, cut off if the session closed before it ends, and left out if it closed before it begins.

@@ -9,7 +9,7 @@ use rs_glass::{Loss, loss_of};
 use rs_glass_shell::{PeerSession, Unanswered, inferred_of};
 use rs_host::{Reached, Unready, open_recording};
 use rs_inventory::{Inventory, PeerId, PeerRecords};
-use rs_losses::{Sought, WithLosses};
+use rs_losses::{PutsIn, Sought, WithLosses};
 use rs_mrt::{Bounds, Lenient, Losses, RecordReader, Source};
 use rs_notes::{Contents, contents_of};
 use rs_opening::sought;
@@ -214,7 +214,7 @@ fn heard<R: AllocGlobal + Files>(
 }
 
 // Counts the changes that a recorded session gives. Answers how its sessions ended.
-fn hear<S: Source + Drop>(
+fn hear<S: Source + PutsIn + Drop>(
     alloc: Global,
     mut session: Session<S>,
     one: &mut PeerTimes,
@@ -236,8 +236,9 @@ fn hear<S: Source + Drop>(
 }
 
 // How the session was lost, if that is the change that it gave last.
-fn loss_behind<S: Source>(session: &Session<S>, word: &Word) -> Option<Loss> {
+fn loss_behind<S: Source + PutsIn>(session: &Session<S>, word: &Word) -> Option<Loss> {
     match word.body {
+        Body::Down if session.source().is_put_in() => Some(Loss::Inferred),
         Body::Down => loss_of(&session.shown()?),
         _ => None,
     }

@@ -31,7 +31,7 @@ mod told;
 
 use super::said::Said;
 use super::words::Octets;
-use rs_losses::{Sought, WithLosses};
+use rs_losses::{PutsIn, Sought, WithLosses};
 use rs_mrt::{
     Cut, Entry, Losses, MemoryReader, MrtFault, Read, ReadLimits, Record, RecordReader, Records,
     Source, SourceFault, entry,

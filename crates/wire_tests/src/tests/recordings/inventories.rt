@@ -144,25 +144,25 @@ a session that comes up and goes down
     100 16.5 of-64501 0005 0006
     101 16.5 of-64501 0006 0001
   by inventory
-    192.0.2.11 64501 sessions [SessionTimes { up: Some(100), down: Some(101) }]
+    192.0.2.11 64501 sessions [SessionTimes { up: Some(100), down: Some(101), shown: false }]
 
 a loss alone: when the session came up isn't recorded
     100 16.5 of-64501 0006 0001
   by inventory
-    192.0.2.11 64501 sessions [SessionTimes { up: None, down: Some(100) }]
+    192.0.2.11 64501 sessions [SessionTimes { up: None, down: Some(100), shown: false }]
 
 a loss by a NOTIFICATION alone
     100 16.4 of-64501 MARKER CEASE
     101 16.5 of-64501 0006 0001
   by inventory
-    192.0.2.11 64501 sessions [SessionTimes { up: None, down: Some(100) }]
+    192.0.2.11 64501 sessions [SessionTimes { up: None, down: Some(100), shown: false }]
 
 a session that comes up again was lost unseen
     100 16.5 of-64501 0005 0006
     101 16.5 of-64501 0005 0006
     102 16.5 of-64501 0006 0001
   by inventory
-    192.0.2.11 64501 sessions [SessionTimes { up: Some(100), down: None }, SessionTimes { up: Some(101), down: Some(102) }]
+    192.0.2.11 64501 sessions [SessionTimes { up: Some(100), down: None, shown: false }, SessionTimes { up: Some(101), down: Some(102), shown: false }]
 
 a loss after a loss says nothing
     100 16.5 of-64501 0005 0006
@@ -170,7 +170,27 @@ a loss after a loss says nothing
     102 16.5 of-64501 0006 0001
     103 16.5 of-64501 0005 0006
   by inventory
-    192.0.2.11 64501 sessions [SessionTimes { up: Some(100), down: Some(101) }, SessionTimes { up: Some(103), down: None }]
+    192.0.2.11 64501 sessions [SessionTimes { up: Some(100), down: Some(101), shown: false }, SessionTimes { up: Some(103), down: None, shown: false }]
+
+an UPDATE behind a loss shows another session, which a loss ends
+    100 16.5 of-64501 0005 0006
+    101 16.5 of-64501 0006 0001
+    102 16.4 of-64501 MARKER OPEN
+    103 16.4 of-64501 MARKER UPDATE
+    104 16.4 of-64501 MARKER UPDATE
+    105 16.4 of-64501 MARKER CEASE
+    106 16.5 of-64501 0006 0001
+  by inventory
+    192.0.2.11 64501 sessions [SessionTimes { up: Some(100), down: Some(101), shown: false }, SessionTimes { up: Some(103), down: Some(105), shown: true }]
+
+an UPDATE before any loss shows no other session
+    100 16.4 of-64501 MARKER UPDATE
+    101 16.4 of-64501 MARKER CEASE
+    102 16.4 of-64501 MARKER UPDATE
+    103 16.5 of-64501 0005 0006
+    104 16.4 of-64501 MARKER UPDATE
+  by inventory
+    192.0.2.11 64501 sessions [SessionTimes { up: None, down: Some(101), shown: false }, SessionTimes { up: Some(102), down: None, shown: true }, SessionTimes { up: Some(103), down: None, shown: false }]
 
 changes that neither come to Established nor leave it
     100 16.5 of-64501 0001 0003
