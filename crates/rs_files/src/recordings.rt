@@ -10,7 +10,6 @@ use rs_mrt::Bounds;
 use rs_notes::format_at;
 use rs_query::PeersQuery;
 use rs_setup::Recording;
-use std::alloc::{AllocError, Global};
 use std::fs::Files;
 
 /// What recorded files hold.
@@ -37,10 +36,7 @@ fn recorded_files<R: AllocGlobal + Files>(
     rt: &R,
     paths: Vec<String>,
 ) -> Result<Vec<RecordedFile>, Unready> {
-    let recordings = recordings_of(rt.alloc(), &paths)?;
-    if let Some(file) = first_unreadable(rt, &recordings)? {
-        return Err(Unready::by_path(rt.alloc(), file.path));
-    }
+    refuse_unreadable(rt, &paths)?;
     let mut held = Vec::new(rt.alloc());
     for path in paths {
         held.push(recorded_file(rt, path)?)
@@ -49,12 +45,17 @@ fn recorded_files<R: AllocGlobal + Files>(
     Ok(held)
 }
 
-// The recordings that are one of these files each.
-fn recordings_of(alloc: Global, paths: &[String]) -> Result<Vec<Recording<'_>>, AllocError> {
-    paths
-        .iter()
-        .map(|path| Recording::of_file(path))
-        .collect(alloc)
+// Refuses the first of the files at these paths that isn't there, or that gives its octets only once and stands there
+// before.
+fn refuse_unreadable<R: AllocGlobal + Files>(rt: &R, paths: &[String]) -> Result<(), Unready> {
+    let mut recordings = Vec::new(rt.alloc());
+    for path in paths {
+        recordings.push(Recording::of_file(path)).map_err(|_| Unready::Memory)?;
+    }
+    match first_unreadable(rt, &recordings)? {
+        Some(file) => Err(Unready::by_path(rt.alloc(), file.path)),
+        None => Ok(()),
+    }
 }
 
 // What the recorded file at a path holds.
