@@ -10,7 +10,7 @@ use Rattle.rs_inventory.specs.declared.back.Back.{Back}
 use Rattle.rs_inventory.specs.declared.finding.Finding.{Finding}
 
 -- what stands before one of some records and one more: all of those, or what stands before it among them
-abbrev Split : List Finding → Finding → List Finding → Finding → Type 0
+abbrev pub Split : List Finding → Finding → List Finding → Finding → Type 0
 Split findings last before one =
     ((before ≡ findings) × (one ≡ last)) ⊎ ((rest : List Finding) × (findings ≡ before ++ one ∷ rest))
 
@@ -22,11 +22,11 @@ abbrev head_or : Finding → List Finding → Finding
 head_or other [] = other
 head_or other (f ∷ fs) = f
 
-not-empty : (before : List Finding) (one : Finding) (later : List Finding) → [] ≡ before ++ one ∷ later → (X : Type 0) → X
+pub not-empty : (before : List Finding) (one : Finding) (later : List Finding) → [] ≡ before ++ one ∷ later → (X : Type 0) → X
 not-empty [] one later e X = absurd (cc e)
 not-empty (b ∷ before) one later e X = absurd (cc e)
 
-split-push : (findings : List Finding) (last : Finding) (before : List Finding) (one : Finding) (later : List Finding)
+pub split-push : (findings : List Finding) (last : Finding) (before : List Finding) (one : Finding) (later : List Finding)
     → findings ++ last ∷ [] ≡ before ++ one ∷ later → Split findings last before one
 split-push [] last [] one later e = inl (refl, ap (head_or one) (sym e))
 split-push [] last (b ∷ before) one later e = not-empty before one later (ap tail_of e) (Split [] last (b ∷ before) one)
@@ -55,7 +55,7 @@ never-push findings last never late = λ before one later latest splits is.
     ]
 
 -- behind no record nothing is late
-none-late : (times : List ℕ) (n : ℕ) → times ≡ [] → (latest : ℕ) → IsLatest times (Some latest) → latest ≤ n
+pub none-late : (times : List ℕ) (n : ℕ) → times ≡ [] → (latest : ℕ) → IsLatest times (Some latest) → latest ≤ n
 none-late [] n empty latest is = absurd (omega (arith, is.0.1))
 none-late (t ∷ times) n empty latest is = absurd (cc empty)
 

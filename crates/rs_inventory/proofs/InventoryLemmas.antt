@@ -1,7 +1,7 @@
 -- What records hold with one record more.
-use Rattle.std.proofs.Common.{◌≡◌, ◌≤◌, ◌∙◌, sym, ap, subst, refl, ℕ, ◌+◌, true, cond, List, [], ◌∷◌, ◌++◌, All, length, map, slice_index}
+use Rattle.std.proofs.Common.{◌≡◌, ◌≤◌, ◌∙◌, sym, ap, subst, refl, ℕ, ◌+◌, Bool, true, cond, List, [], ◌∷◌, ◌++◌, All, length, map, slice_index}
 use Rattle.std.proofs.Common.{Option, Some, None, option_map, min, max, arith, inl, inr, append-nil, length-append, ◌⊎◌}
-use Rattle.std.specs.List.{Contains, count_by}
+use Rattle.std.specs.List.{Contains, cons_option, count_by}
 use Rattle.std.specs.Option.{option_or}
 use Rattle.std.specs.Cmp.{Equal-is}
 use Rattle.std.proofs.lemmas.Bool.{cases_Bool, cases_lt}
@@ -13,17 +13,23 @@ use Rattle.rs_inventory.specs.Kind.{is_kind, place_of}
 use Rattle.rs_inventory.specs.Opening.{first_found}
 use Rattle.rs_inventory.specs.Peer.{PeerContent, TellsMore, Told, counted, peer_content}
 use Rattle.rs_inventory.specs.Back.{TellsBack, back_behind, first_back}
-use Rattle.rs_inventory.specs.Inventory.{Content, Holds, TakesNote, WithCounts, earlier_of, first_of, known_of}
-use Rattle.rs_inventory.specs.Inventory.{later_of, peer_at, peer_cmp, same_peer, sum_of, told_in, told_of, with_back}
+use Rattle.rs_inventory.specs.Course.{course_of}
+use Rattle.rs_inventory.specs.Inventory.{Content, Holds, TakesNote, WithCounts, earlier_of, first_of, is_content_up, is_note_up, is_one_up}
+use Rattle.rs_inventory.specs.Inventory.{known_of, later_of, peer_at, silence_before, sum_of, with_back, with_unnamed}
+use Rattle.rs_inventory.specs.Silence.{Watches, is_kept_up, is_noted_up, is_some_up, silence_behind, silence_while, watch_with}
 use Rattle.rs_inventory.specs.Times.{IsEarliest, IsLatest, known_sum}
+use Rattle.rs_inventory.specs.Told.{peer_cmp, same_peer, told_in, told_of}
+use Rattle.rs_inventory.specs.Unnamed.{unnamed_by}
 use Rattle.rs_inventory.specs.declared.back.Back.{Back}
 use Rattle.rs_inventory.specs.declared.finding.Finding.{Finding}
 use Rattle.rs_inventory.specs.declared.finding.News.{News}
 use Rattle.rs_inventory.specs.declared.finding.Note.{Note}
 use Rattle.rs_inventory.specs.declared.kind.Kind.{Kind}
+use Rattle.rs_inventory.specs.declared.silence.Watch.{Watch}
 use Rattle.rs_types.specs.declared.peer_id.PeerId.{PeerId}
 use Rattle.rs_inventory.proofs.BackLemmas.{back-push}
 use Rattle.rs_inventory.proofs.PeerLemmas.{counted-more}
+use Rattle.rs_inventory.proofs.SilenceLemmas.{watch-push}
 
 -- ---- times
 
@@ -134,12 +140,59 @@ pub next-new : (time : ℕ) (one : News) (now : PeerContent) → TellsMore (peer
 next-new time one now tells [] none = ap Some (tells [] refl)
 next-new time one now tells (t ∷ told) none = absurd (cc none)
 
+-- what is known of each peer, with one record more
+peers-push : (findings : List Finding) (one : Finding) (old new : List (PeerId × PeerContent)) → TakesNote old one.time one.note new
+    → ((peer : PeerId) → peer_at old peer ≡ known_of (told_of peer findings))
+    → (peer : PeerId) → peer_at new peer ≡ known_of (told_of peer (findings ++ one ∷ []))
+peers-push findings one old new takes are peer =
+    takes peer (told_of peer findings) (are peer)
+    ∙ ap known_of (sym (filter_map-append (λ (f : Finding). told_in peer f.time f.note) findings (one ∷ [])))
+
+-- ---- whose session is up
+
+-- the session of a peer is up by what is known of it, as it is by its records
+known-up : (told : List Told) → is_content_up (known_of told) ≡ (course_of told).up
+unfolding course_of peer_content
+known-up [] = refl
+known-up (t ∷ told) = refl
+
+note-up : (findings : List Finding) (peers : List (PeerId × PeerContent)) (note : Option Note)
+    → ((peer : PeerId) → peer_at peers peer ≡ known_of (told_of peer findings))
+    → is_note_up peers note ≡ is_noted_up findings note
+note-up findings peers None are = refl
+note-up findings peers (Some note) are = ap is_content_up (are note.peer) ∙ known-up (told_of note.peer findings)
+
+one-up : (findings : List Finding) (peers : List (PeerId × PeerContent)) (peer : Option PeerId)
+    → ((peer : PeerId) → peer_at peers peer ≡ known_of (told_of peer findings))
+    → is_one_up peers peer ≡ is_some_up findings peer
+one-up findings peers None are = refl
+one-up findings peers (Some peer) are = ap is_content_up (are peer) ∙ known-up (told_of peer findings)
+
+-- what records tell of times without any, with one more
+watch-more : (findings : List Finding) (one : Finding) (old : Content) (peers : List (PeerId × PeerContent)) (up : Bool)
+    → Holds findings old → TakesNote old.peers one.time one.note peers → up ≡ is_note_up peers one.note
+    → Watches (findings ++ one ∷ []) (watch_with one up (silence_before one.time old) old.watch)
+watch-more findings one old peers up holds takes is =
+    subst (λ (n : ℕ). Watches (findings ++ one ∷ []) (watch_with one up
+    (silence_while (is_one_up old.peers old.watch.keeper) (silence_behind old.last one.time old.watch.wait n old.octets)) old.watch))
+    (sym holds.records)
+    (subst (λ (o : Option ℕ). Watches (findings ++ one ∷ []) (watch_with one up
+    (silence_while (is_one_up old.peers old.watch.keeper)
+    (silence_behind old.last one.time old.watch.wait (counted (length findings)) o)) old.watch))
+    (sym holds.octets)
+    (watch-push findings one old.watch old.last (is_one_up old.peers old.watch.keeper) up holds.watch holds.last
+    (one-up findings old.peers old.watch.keeper holds.peers ∙ ap (is_some_up findings) holds.watch.keeper)
+    (is ∙ note-up (findings ++ one ∷ []) peers one.note (peers-push findings one old.peers peers takes holds.peers))))
+
 -- ---- all
 
-pub holds-more : (findings : List Finding) (one : Finding) (old mid new : Content) (peers : List (PeerId × PeerContent)) → Holds findings old
-    → mid ≡ with_back one (record old { peers = peers }) → TakesNote old.peers one.time one.note peers → WithCounts one mid new
+pub holds-more : (findings : List Finding) (one : Finding) (old mid new : Content) (peers : List (PeerId × PeerContent)) (up : Bool)
+    → Holds findings old
+    → mid ≡ with_back one (with_unnamed one
+    (record old { peers = peers; watch = watch_with one up (silence_before one.time old) old.watch }))
+    → TakesNote old.peers one.time one.note peers → up ≡ is_note_up peers one.note → WithCounts one mid new
     → Holds (findings ++ one ∷ []) new
-holds-more findings one old mid new peers holds same takes counts = record {
+holds-more findings one old mid new peers up holds same takes is counts = record {
   records = counts.records ∙ ap (λ (c : Content). counted (c.records + 1)) same ∙ ap (λ n. counted (n + 1)) holds.records
       ∙ sym (counted-more (length findings) 1) ∙ ap counted (sym (length-append findings (one ∷ [])));
   kinds = λ kind. counts.kinds kind ∙ kinds-push kind findings one (slice_index mid.kinds (place_of kind))
@@ -158,9 +211,14 @@ holds-more findings one old mid new peers holds same takes counts = record {
       ∙ ap (λ (n : ℕ). first_back old.back (back_behind old.last one.time n old.octets)) holds.records
       ∙ ap (λ (o : Option ℕ). first_back old.back (back_behind old.last one.time (counted (length findings)) o)) holds.octets))
       (back-push findings one old.back old.last holds.back holds.last);
+  watch = subst (λ (w : Watch). Watches (findings ++ one ∷ []) w) (sym (counts.watch ∙ ap (λ (c : Content). c.watch) same))
+      (watch-more findings one old peers up holds takes is);
+  unnamed = counts.unnamed ∙ ap (λ (c : Content). c.unnamed) same
+      ∙ ap (λ l. l ++ cons_option (unnamed_by one.time one.note) []) holds.unnamed
+      ∙ sym (filter_map-append (λ (f : Finding). unnamed_by f.time f.note) findings (one ∷ []));
   recorder = counts.recorder ∙ ap (λ (c : Content). first_of c.recorder one.recorder) same
       ∙ ap (λ o. first_of o one.recorder) holds.recorder
       ∙ sym (first_found-push (λ (f : Finding). f.recorder) findings one);
-  peers = λ peer. ap (λ ps. peer_at ps peer) counts.peers ∙ ap (λ (c : Content). peer_at c.peers peer) same ∙ takes peer (told_of peer findings) (holds.peers peer)
-      ∙ ap known_of (sym (filter_map-append (λ (f : Finding). told_in peer f.time f.note) findings (one ∷ [])));
+  peers = λ peer. ap (λ ps. peer_at ps peer) counts.peers ∙ ap (λ (c : Content). peer_at c.peers peer) same
+      ∙ peers-push findings one old.peers peers takes holds.peers peer;
 }

@@ -2,6 +2,7 @@ mod SessionLemmas
 mod PeerLemmas
 mod InventoryLemmas
 mod BackLemmas
+mod SilenceLemmas
 mod ItemLemmas
 mod CourseLemmas
 mod FrontLemmas

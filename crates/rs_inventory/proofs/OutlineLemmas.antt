@@ -71,6 +71,8 @@ outline-whole server comes initial now last outline shown end cut so gives stopp
     last = so.going.holds.last;
     octets = so.going.holds.octets;
     back = so.going.holds.back;
+    watch = so.going.holds.watch;
+    unnamed = so.going.holds.unnamed;
     recorder = so.going.holds.recorder;
     peers = so.going.holds.peers;
   };

@@ -11,7 +11,7 @@ use Rattle.rs_update.specs.Message.{MessageContent, IsOpen, IsUpdate, IsTreated,
 use Rattle.rs_update.specs.Message.{IsRefresh, message_of}
 use Rattle.rs_update.specs.declared.fault.MessageFault.{MessageFault}
 use Rattle.rs_inventory.specs.Kind.{fields_of, is_kind, unread_kind}
-use Rattle.rs_inventory.specs.Opening.{identifier_of, sender_as}
+use Rattle.rs_inventory.specs.Opening.{hold_time_of, identifier_of, sender_as}
 use Rattle.rs_inventory.specs.declared.depth.Depth.{Depth}
 use Rattle.rs_inventory.specs.declared.depth.Depth.TheVariants as depths
 use Rattle.rs_inventory.specs.declared.finding.Finding.{Finding}
@@ -78,6 +78,10 @@ abbrev pub news_at : Depth → List ℕ → News
 news_at depths.Whole octets = news_of_message octets (message_of octets)
 news_at depths.Outline octets = news_of_kind octets (kind_of_type (type_in octets))
 
+-- the Hold Time of a message, 0 if it is no OPEN by its type (RFC 4271, section 4.2)
+abbrev pub hold_of : List ℕ → ℕ
+hold_of octets = if is_kind kinds.Open (kind_of_type (type_in octets)) then hold_time_of octets else 0
+
 -- ---- a change of state
 
 -- a session comes up with a change to Established, and goes down with a change from Established (RFC 6396, section
@@ -131,6 +135,15 @@ two_octet_open fields =
 unfoldable pub two_octet_note : MrtRecord → Option Note
 two_octet_note r = if r.subtype == 1 then option_and_then two_octet_open (fields_of r) else None
 
+-- the Hold Time of an OPEN behind such fields, and below, in a record of a session with two-octet AS numbers; 0 if it
+-- is none
+abbrev pub hold_behind : Option (List ℕ) → ℕ
+hold_behind None = 0
+hold_behind (Some fields) = if is_ipv4_message fields then hold_of (drop 16 fields) else 0
+
+unfoldable pub two_octet_hold : MrtRecord → ℕ
+two_octet_hold r = if r.subtype == 1 then hold_behind (fields_of r) else 0
+
 -- what a record adds to an inventory, by its meaning
 abbrev pub finding_by : Depth → MrtRecord → Result Meaning MrtFault → Finding
 finding_by depth r (Ok (Message asn address octets)) = record {
@@ -138,6 +151,7 @@ finding_by depth r (Ok (Message asn address octets)) = record {
   kind = kind_at depth octets;
   octets = known_octets r.body;
   recorder = recorder_in (fields_of r);
+  hold = hold_of octets;
   note = Some (note_of address asn (news_at depth octets));
 }
 finding_by depth r (Ok (State asn address old new)) = record {
@@ -145,6 +159,7 @@ finding_by depth r (Ok (State asn address old new)) = record {
   kind = kinds.StateChange;
   octets = known_octets r.body;
   recorder = None;
+  hold = 0;
   note = Some (note_of address asn (news_of_states old new));
 }
 finding_by depth r (Ok Other) =
@@ -153,10 +168,18 @@ finding_by depth r (Ok Other) =
       kind = unread_kind r;
       octets = known_octets r.body;
       recorder = None;
+      hold = two_octet_hold r;
       note = two_octet_note r;
     }
 finding_by depth r (Err fault) =
-    record { time = r.time; kind = kinds.CutShort; octets = known_octets r.body; recorder = None; note = None }
+    record {
+      time = r.time;
+      kind = kinds.CutShort;
+      octets = known_octets r.body;
+      recorder = None;
+      hold = 0;
+      note = None;
+    }
 
 -- what a record adds to an inventory
 abbrev pub finding_of : Depth → MrtRecord → Finding

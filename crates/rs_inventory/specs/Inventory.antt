@@ -1,28 +1,28 @@
 -- The content of a file: what all its records are.
-use Rattle.std.specs.Prelude.{◌≡◌, ℕ, ◌+◌, Bool, if◌then◌else◌, List, [], ◌∷◌, ◌++◌, length, map}
-use Rattle.std.specs.Prelude.{min, max, slice_index, Option, Some, None, count_by, filter_map}
+use Rattle.std.specs.Prelude.{◌≡◌, ℕ, ◌+◌, Bool, false, if◌then◌else◌, List, [], ◌∷◌, ◌++◌, length, map}
+use Rattle.std.specs.Prelude.{min, max, slice_index, Option, Some, None, count_by}
 use Rattle.std.specs.BTreeMap.{is_at}
 use Rattle.std.specs.List.{cons_option}
 use Rattle.std.specs.Map.{lookup}
 use Rattle.std.specs.Option.{option_map}
-use Rattle.std.specs.Ordering.{eq_by_cmp, nat_cmp, ordering_then}
-use Rattle.std.specs.declared.cmp.Ordering.{Ordering}
 use Rattle.rs_mrt.specs.declared.fault.MrtFault.{MrtFault}
 use Rattle.rs_inventory.specs.Back.{TellsBack, back_behind, first_back}
 use Rattle.rs_inventory.specs.Kind.{is_kind, place_of}
 use Rattle.rs_inventory.specs.Opening.{first_found}
 use Rattle.rs_inventory.specs.Peer.{PeerContent, Told, counted, peer_content}
+use Rattle.rs_inventory.specs.Silence.{Watches, silence_behind, silence_while, watch_with}
 use Rattle.rs_inventory.specs.Times.{IsEarliest, IsLatest, known_sum}
+use Rattle.rs_inventory.specs.Told.{peer_cmp, told_in, told_of}
+use Rattle.rs_inventory.specs.Unnamed.{unnamed_by, unnamed_of}
 use Rattle.rs_inventory.specs.declared.back.Back.{Back}
 use Rattle.rs_inventory.specs.declared.compression.Compression.{Compression}
 use Rattle.rs_inventory.specs.declared.finding.Finding.{Finding}
 use Rattle.rs_inventory.specs.declared.finding.Note.{Note}
 use Rattle.rs_inventory.specs.declared.kind.Kind.{Kind}
+use Rattle.rs_inventory.specs.declared.silence.Silence.{Silence}
+use Rattle.rs_inventory.specs.declared.silence.Watch.{Watch}
+use Rattle.rs_inventory.specs.declared.unnamed.UnnamedLoss.{UnnamedLoss}
 use Rattle.rs_types.specs.declared.peer_id.PeerId.{PeerId}
-
--- the order of peers: by address, then by AS number
-abbrev pub peer_cmp : PeerId → PeerId → Ordering
-peer_cmp one other = ordering_then (nat_cmp one.address other.address) (nat_cmp one.asn other.asn)
 
 -- the content of a file: `kinds` has a count at the place of each kind, and `peers` are in ascending order
 pub record Content : Type 0 where
@@ -34,23 +34,12 @@ pub record Content : Type 0 where
   pub last : Option ℕ
   pub octets : Option ℕ
   pub back : Option Back
+  pub watch : Watch
+  pub unnamed : List UnnamedLoss
   pub recorder : Option PeerId
   pub peers : List (PeerId × PeerContent)
 
 -- ---- peers
-
--- whether two peers are the same
-abbrev pub same_peer : PeerId → PeerId → Bool
-same_peer = eq_by_cmp peer_cmp
-
--- the meaning of a record for a peer, if it has one
-abbrev pub told_in : PeerId → ℕ → Option Note → Option Told
-told_in peer time None = None
-told_in peer time (Some note) = if same_peer note.peer peer then Some (time, note.news) else None
-
--- the meaning of all records for a peer
-abbrev pub told_of : PeerId → List Finding → List Told
-told_of peer findings = filter_map (λ f. told_in peer f.time f.note) findings
 
 -- a peer is known if some record has a meaning for it
 abbrev pub known_of : List Told → Option PeerContent
@@ -61,11 +50,26 @@ known_of (one ∷ later) = Some (peer_content (one ∷ later))
 abbrev pub peer_at : List (PeerId × PeerContent) → PeerId → Option PeerContent
 peer_at peers peer = lookup (is_at (peer_cmp peer)) peers
 
+-- whether the session of a peer is up, by its content
+abbrev pub is_content_up : Option PeerContent → Bool
+is_content_up None = false
+is_content_up (Some content) = content.course.up
+
+-- whether the session of the peer of a note is up
+abbrev pub is_note_up : List (PeerId × PeerContent) → Option Note → Bool
+is_note_up peers None = false
+is_note_up peers (Some note) = is_content_up (peer_at peers note.peer)
+
+-- whether the session of a peer is up, if there is a peer
+abbrev pub is_one_up : List (PeerId × PeerContent) → Option PeerId → Bool
+is_one_up peers None = false
+is_one_up peers (Some peer) = is_content_up (peer_at peers peer)
+
 -- ---- all records
 
 -- The content of these records: how many they are, how many of each kind, their earliest and latest times, and their
--- octets. It also has where times go back, the first recorder that is named, and for each peer the content of its
--- records.
+-- octets. It also has where times go back, times without any record, and losses without an address. It has the first
+-- recorder that is named, and for each peer the content of its records.
 pub record Holds (findings : List Finding) (content : Content) : Type 0 where
   pub records : content.records ≡ counted (length findings)
   pub kinds : (kind : Kind)
@@ -74,6 +78,8 @@ pub record Holds (findings : List Finding) (content : Content) : Type 0 where
   pub last : IsLatest (map (λ f. f.time) findings) content.last
   pub octets : content.octets ≡ option_map counted (known_sum (map (λ f. f.octets) findings))
   pub back : TellsBack findings content.back
+  pub watch : Watches findings content.watch
+  pub unnamed : content.unnamed ≡ unnamed_of findings
   pub recorder : content.recorder ≡ first_found (λ f. f.recorder) findings
   pub peers : (peer : PeerId) → peer_at content.peers peer ≡ known_of (told_of peer findings)
 
@@ -116,6 +122,20 @@ first_of (Some x) other = Some x
 abbrev pub with_back : Finding → Content → Content
 with_back one old = record old { back = first_back old.back (back_behind old.last one.time old.records old.octets) }
 
+-- the time without any record before one more, if it counts
+abbrev pub silence_before : ℕ → Content → Option Silence
+silence_before time old =
+    silence_while (is_one_up old.peers old.watch.keeper)
+    (silence_behind old.last time old.watch.wait old.records old.octets)
+
+-- times without any record, after one more record
+abbrev pub with_watch : Finding → Bool → Option Silence → Content → Content
+with_watch one up silence old = record old { watch = watch_with one up silence old.watch }
+
+-- losses without an address, after one more record
+abbrev pub with_unnamed : Finding → Content → Content
+with_unnamed one old = record old { unnamed = old.unnamed ++ cons_option (unnamed_by one.time one.note) [] }
+
 -- the counts and times after one more record
 pub record WithCounts (one : Finding) (old new : Content) : Type 0 where
   pub compression : new.compression ≡ old.compression
@@ -128,5 +148,7 @@ pub record WithCounts (one : Finding) (old new : Content) : Type 0 where
   pub last : new.last ≡ Some (later_of old.last one.time)
   pub octets : new.octets ≡ sum_of old.octets one.octets
   pub back : new.back ≡ old.back
+  pub watch : new.watch ≡ old.watch
+  pub unnamed : new.unnamed ≡ old.unnamed
   pub recorder : new.recorder ≡ first_of old.recorder one.recorder
   pub peers : new.peers ≡ old.peers

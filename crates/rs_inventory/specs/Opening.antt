@@ -12,6 +12,10 @@ use Rattle.rs_inventory.specs.declared.opening.Item.{Item}
 abbrev pub identifier_of : List ℕ → ℕ
 identifier_of octets = if nat_lt (length octets) 28 then 0 else big_number 4 (drop 24 octets)
 
+-- the hold time: it comes after the header, the version and the AS number
+abbrev pub hold_time_of : List ℕ → ℕ
+hold_time_of octets = if nat_lt (length octets) 24 then 0 else big_number 2 (drop 22 octets)
+
 -- an item, as an Optional Parameter or a capability is: its type, and its value
 pub record ItemContent : Type 0 where
   pub kind : ℕ

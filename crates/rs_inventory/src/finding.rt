@@ -1,19 +1,19 @@
 //! What one record adds to an inventory.
 
-ghost use Rattle.std.specs.Prelude.{◌≡◌, ◌≤◌, length, IfOk, IsTrue};
+ghost use Rattle.std.specs.Prelude.{◌≡◌, ◌≤◌, length, IfOk, IsTrue, Some};
 ghost use Rattle.rs_mrt.specs.Record.{record_of};
 ghost use Rattle.rs_update.specs.Message.{message_of};
-ghost use Rattle.rs_inventory.specs.Finding.{finding_of, is_ipv4_message, is_peer, kind_at};
+ghost use Rattle.rs_inventory.specs.Finding.{finding_of, hold_behind, hold_of, is_ipv4_message, is_peer, kind_at};
 ghost use Rattle.rs_inventory.specs.Finding.{kind_of_message, kind_of_type, known_octets, news_at, news_of_kind};
 ghost use Rattle.rs_inventory.specs.Finding.{news_of_message, news_of_states, note_of, opener_of};
-ghost use Rattle.rs_inventory.specs.Finding.{recorder_in, two_octet_note, two_octet_open, type_in};
+ghost use Rattle.rs_inventory.specs.Finding.{recorder_in, two_octet_hold, two_octet_note, two_octet_open, type_in};
 ghost use Rattle.rs_inventory.specs.Kind.{fields_of};
 ghost use Rattle.rs_inventory.specs.Opening.{sender_as};
 ghost use Rattle.rs_inventory.specs.declared.finding.News.TheVariants as news;
 
 use crate::depth::Depth;
 use crate::kind::{Kind, MESSAGE, session_fields};
-use crate::opening::{four_octet_as, identifier};
+use crate::opening::{four_octet_as, hold_time, identifier};
 use byteorder::{BigEndian, ByteOrder};
 use rs_mrt::{AFI_IPV4, ESTABLISHED, Entry, FRONT_LEN, HEADER_LEN, Record, entry};
 use rs_types::PeerId;
@@ -32,6 +32,8 @@ pub(crate) struct Finding {
     pub octets: Option<u64>,
     /// Who recorded it, if it is a message of a session with four-octet AS numbers.
     pub recorder: Option<PeerId>,
+    /// The Hold Time of an OPEN, in seconds; 0 if it is none.
+    pub hold: u32,
     /// What it says of a peer.
     pub note: Option<Note>,
 }
@@ -107,6 +109,7 @@ impl Finding {
             kind: Kind::CutShort,
             octets: octets_of(record),
             recorder: None,
+            hold: 0,
             note: None,
         };
         match entry(record) {
@@ -121,6 +124,7 @@ impl Finding {
                 Ok(Finding {
                     kind,
                     recorder: recorder(record),
+                    hold: hold_of(message),
                     note: Some(Note::of(peer, peer_as, news)),
                     ..nothing
                 })
@@ -139,6 +143,7 @@ impl Finding {
             }),
             Ok(Entry::Other) => Ok(Finding {
                 kind: Kind::of_unread(record),
+                hold: two_octet_hold(record),
                 note: two_octet_note(record),
                 ..nothing
             }),
@@ -217,6 +222,16 @@ pub(crate) fn kind_of_type(octets: &[u8]) -> Kind
         Some(4) => Kind::KeepAlive,
         Some(5) => Kind::RouteRefresh,
         _ => Kind::Faulty,
+    }
+}
+
+// The Hold Time of a message, 0 if it is no OPEN by its type.
+fn hold_of(octets: &[u8]) -> u32
+    ensures { result ≡ hold_of octets.now }
+{
+    match kind_of_type(octets) {
+        Kind::Open => hold_time(octets),
+        _ => 0,
     }
 }
 
@@ -308,6 +323,31 @@ fn two_octet_open(fields: &[u8]) -> Option<Note>
     match kind_of_type(&fields[MESSAGE_AT..]) {
         Kind::Open => Some(opener(fields)),
         _ => None,
+    }
+}
+
+// The Hold Time of an OPEN in a record of a session with two-octet AS numbers, 0 if it is none.
+#[tactic(auto, unfolding(crate::specs::Finding::two_octet_hold))]
+fn two_octet_hold(record: &Record<'_>) -> u32
+    ensures { result ≡ two_octet_hold (record_of «record».now) }
+{
+    if record.subtype != MESSAGE {
+        return 0;
+    }
+    match session_fields(record) {
+        Some(fields) => hold_behind(fields),
+        None => 0,
+    }
+}
+
+// The Hold Time of the OPEN that stands behind such fields, 0 if it is none.
+fn hold_behind(fields: &[u8]) -> u32
+    ensures { result ≡ hold_behind (Some fields.now) }
+{
+    if is_ipv4_message(fields) {
+        hold_of(&fields[MESSAGE_AT..])
+    } else {
+        0
     }
 }
 

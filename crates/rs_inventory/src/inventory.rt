@@ -2,7 +2,8 @@
 
 ghost use Rattle.std.specs.Prelude.{◌≡◌, [], IfOk, OnOk, Some, None, slice_index};
 ghost use Rattle.rs_inventory.specs.Inventory.{HoldsNothing, TakesFinding, TakesNote, WithCounts, earlier_of, later_of};
-ghost use Rattle.rs_inventory.specs.Inventory.{first_of, sum_of, with_back};
+ghost use Rattle.rs_inventory.specs.Inventory.{first_of, is_note_up, is_one_up, silence_before, sum_of};
+ghost use Rattle.rs_inventory.specs.Inventory.{with_back, with_unnamed, with_watch};
 ghost use Rattle.rs_inventory.specs.Kind.{place_of};
 ghost use Rattle.rs_inventory.specs.Peer.{TellsMore, peer_content};
 
@@ -11,6 +12,8 @@ use crate::compression::Compression;
 use crate::finding::{Finding, News, Note};
 use crate::kind::{KINDS, Kind};
 use crate::peer::PeerRecords;
+use crate::silence::{Silence, Watch, silence_behind};
+use crate::unnamed::{UnnamedLoss, unnamed_by};
 use rs_mrt::MrtFault;
 use rs_types::PeerId;
 use std::alloc::{AllocError, Global};
@@ -30,6 +33,9 @@ pub struct Inventory {
     // How many octets the whole records have, if that is known.
     octets: Option<u64>,
     back: Option<Back>,
+    // What is known of times without any record.
+    watch: Watch,
+    unnamed: Vec<UnnamedLoss>,
     recorder: Option<PeerId>,
     peers: BTreeMap<PeerId, PeerRecords>,
 }
@@ -48,6 +54,8 @@ impl Model for Inventory {
       last = i.last;
       octets = i.octets;
       back = i.back;
+      watch = i.watch;
+      unnamed = i.unnamed.items;
       recorder = i.recorder;
       peers = i.peers.entries;
     } };
@@ -68,6 +76,8 @@ impl Inventory {
             last: None,
             octets: Some(0),
             back: None,
+            watch: Watch::none(),
+            unnamed: Vec::new(alloc),
             recorder: None,
             peers: BTreeMap::new(alloc),
         }
@@ -78,7 +88,10 @@ impl Inventory {
         ensures takes { OnOk result (TakesFinding self.old finding self.new) }
         ensures compression { OnOk result (self.new.compression ≡ self.old.compression) }
     {
-        self.take_note(alloc, finding.time, finding.note)?;
+        let silence = self.silence_before(finding.time);
+        let up = self.take_note(alloc, finding.time, finding.note)?;
+        self.take_watch(&finding, up, silence);
+        self.take_unnamed(&finding)?;
         self.take_back(&finding);
         self.count(&finding);
         Ok(())
@@ -91,15 +104,57 @@ impl Inventory {
         self.end = end;
     }
 
-    // Takes what a record says of a peer, if it says anything.
-    fn take_note(&mut self, alloc: Global, time: u32, note: Option<Note>) -> Result<(), AllocError>
+    // Takes what a record says of a peer, if it says anything. Answers whether the session of that peer is up behind it.
+    fn take_note(&mut self, alloc: Global, time: u32, note: Option<Note>) -> Result<bool, AllocError>
         ensures same { OnOk result (self.new ≡ record self.old { peers = self.new.peers }) }
         ensures takes { OnOk result (TakesNote self.old.peers time note self.new.peers) }
+        ensures up { IfOk result (λ up. up ≡ is_note_up self.new.peers note) }
     {
         match note {
             Some(note) => take_news(alloc, &mut self.peers, time, note),
-            None => Ok(()),
+            None => Ok(false),
         }
+    }
+
+    // The time without any record before one of a time, if it counts.
+    fn silence_before(&self, time: u32) -> Option<Silence>
+        ensures { result ≡ silence_before time self.now }
+    {
+        let (records, octets) = (self.records, self.octets);
+        let silence = silence_behind(self.last, time, self.watch.wait, records, octets)?;
+        if self.is_kept_up() {
+            Some(silence)
+        } else {
+            None
+        }
+    }
+
+    // Whether the session is up whose peer has kept it up last.
+    fn is_kept_up(&self) -> bool
+        ensures { result ≡ is_one_up self.now.peers self.now.watch.keeper }
+    {
+        match self.watch.keeper {
+            Some(keeper) => is_up_in(&self.peers, keeper),
+            None => false,
+        }
+    }
+
+    // Takes what a record tells of times without any: whether the session of its peer is up behind it, and the time without
+    // any before it, if that counts.
+    fn take_watch(&mut self, finding: &Finding, up: bool, silence: Option<Silence>)
+        ensures { self.new ≡ with_watch finding.now up silence self.old }
+    {
+        self.watch = self.watch.with(finding, up, silence);
+    }
+
+    // Takes the loss in a record, if it is one without an address.
+    fn take_unnamed(&mut self, finding: &Finding) -> Result<(), AllocError>
+        ensures { OnOk result (self.new ≡ with_unnamed finding.now self.old) }
+    {
+        if let Some(loss) = unnamed_by(finding.time, finding.note) {
+            self.unnamed.push(loss)?;
+        }
+        Ok(())
     }
 
     // Takes where times go back, if they do at a record. Those before it are counted.
@@ -185,6 +240,20 @@ impl Inventory {
         self.back
     }
 
+    /// The first time without any record while a session is up that shows KEEPALIVEs; none if there is none.
+    pub fn silence(&self) -> Option<Silence>
+        ensures { result ≡ self.now.watch.first }
+    {
+        self.watch.first
+    }
+
+    /// The losses that are recorded without an address, in order.
+    pub fn unnamed(&self) -> &[UnnamedLoss]
+        ensures { result.now ≡ self.now.unnamed }
+    {
+        &self.unnamed
+    }
+
     /// The AS number and the address of the recorder, as the first message of a session with four-octet AS numbers
     /// names it.
     pub fn recorder(&self) -> Option<PeerId>
@@ -201,21 +270,34 @@ impl Inventory {
     }
 }
 
-// Takes what a record says of a peer.
+// Whether the session of a peer is up.
+fn is_up_in(peers: &BTreeMap<PeerId, PeerRecords>, peer: PeerId) -> bool
+    ensures { result ≡ is_one_up peers.now.entries (Some peer) }
+{
+    match peers.get(&peer) {
+        Some(records) => records.course().up,
+        None => false,
+    }
+}
+
+// Takes what a record says of a peer. Answers whether the session of that peer is up behind it.
 fn take_news(
     alloc: Global,
     peers: &mut BTreeMap<PeerId, PeerRecords>,
     time: u32,
     note: Note,
-) -> Result<(), AllocError>
-    ensures { OnOk result (TakesNote peers.old.entries time (Some note) peers.new.entries) }
+) -> Result<bool, AllocError>
+    ensures takes { OnOk result (TakesNote peers.old.entries time (Some note) peers.new.entries) }
+    ensures up { IfOk result (λ up. up ≡ is_note_up peers.new.entries (Some note)) }
 {
     if let Some(records) = peers.get_mut(&note.peer) {
-        return records.take(time, note.news);
+        records.take(time, note.news)?;
+        return Ok(records.course().up);
     }
     let records = first_records(alloc, time, note.news)?;
+    let up = records.course().up;
     peers.insert(note.peer, records)?;
-    Ok(())
+    Ok(up)
 }
 
 // What is known of a peer by its first record.

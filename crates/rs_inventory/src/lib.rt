@@ -3,9 +3,10 @@
 //!
 //! Reading order, files and records first: `compression` (a file that isn't records), `kind` (what a record is),
 //! `opening` (what an OPEN tells). Then what one record adds: `depth`, `finding` and `outline`. Then what is known of
-//! one peer: `sessions`, `course` and `peer`. Then what is known of one file: `back` (where its times go back) and
-//! `inventory`. What its outline tells: `unread` (messages that aren't read) and `file_outline`. Last how a file is
-//! read: `front` and `reading`, and by `outlined_records` and `outline_slot` while somebody else reads it.
+//! one peer: `sessions`, `course` and `peer`. Then what is known of one file: `back` (where its times go back), `silence`
+//! (a time without any record), `unnamed` (losses without an address) and `inventory`. What its outline tells: `unread`
+//! (messages that aren't read) and `file_outline`. Last how a file is read: `front` and `reading`, and by
+//! `outlined_records` and `outline_slot` while somebody else reads it.
 //!
 //! A call that allocates fails if memory is refused.
 #![tactic(auto)]
@@ -26,6 +27,8 @@ mod outlined_records;
 mod peer;
 mod reading;
 mod sessions;
+mod silence;
+mod unnamed;
 mod unread;
 
 pub use back::Back;
@@ -42,4 +45,6 @@ pub use peer::PeerRecords;
 pub use reading::{InventoryFault, outline_of, read_inventory, read_outline};
 pub use rs_types::PeerId;
 pub use sessions::SessionTimes;
+pub use silence::Silence;
+pub use unnamed::UnnamedLoss;
 pub use unread::{Unread, UnreadMessages};

@@ -1,12 +1,17 @@
-//! The BGP Identifier and the AS number of four octets in an OPEN (RFC 4271, section 4.2; RFC 6793, section 3; RFC
-//! 5492, section 4).
+//! The Hold Time, the BGP Identifier and the AS number of four octets in an OPEN (RFC 4271, section 4.2; RFC 6793,
+//! section 3; RFC 5492, section 4).
 
 ghost use Rattle.std.specs.Prelude.{◌≡◌};
 ghost use Rattle.std.specs.Option.{option_map};
 ghost use Rattle.rs_inventory.specs.Opening.{as_of_capability, as_of_parameter, first_found, four_octet_as};
-ghost use Rattle.rs_inventory.specs.Opening.{identifier_of, item_at, item_of, items_of};
+ghost use Rattle.rs_inventory.specs.Opening.{hold_time_of, identifier_of, item_at, item_of, items_of};
 
 use byteorder::{BigEndian, ByteOrder};
+
+// Where the Hold Time stands in an OPEN, and where it ends.
+const HOLD_TIME_AT: usize = 22;
+
+const HOLD_TIME_END: usize = 24;
 
 // Where the BGP Identifier stands in an OPEN, and where it ends.
 const IDENTIFIER_AT: usize = 24;
@@ -39,6 +44,16 @@ pub(crate) fn identifier(octets: &[u8]) -> u32
         return 0;
     }
     BigEndian::read_u32(&octets[IDENTIFIER_AT..])
+}
+
+/// The Hold Time of an OPEN, in seconds; 0 if the octets are fewer.
+pub(crate) fn hold_time(octets: &[u8]) -> u32
+    ensures { result ≡ hold_time_of octets.now }
+{
+    if octets.len() < HOLD_TIME_END {
+        return 0;
+    }
+    u32::from(BigEndian::read_u16(&octets[HOLD_TIME_AT..]))
 }
 
 /// The AS number of four octets in a capability of an OPEN; None if there is none.

@@ -1,5 +1,6 @@
 use Rattle.std.proofs.Common.{refl, rules}
 use Rattle.rs_inventory.proofs.BackLemmas.{never_back}
+use Rattle.rs_inventory.proofs.SilenceLemmas.{never_silent}
 use Rattle.rs_inventory.proofs.inventory.Inventory.none.Goals as goal
 
 pub returns-clause-holds : goal.returns-clause-holds
@@ -11,6 +12,8 @@ returns-clause-holds c = (
     last = refl;
     octets = refl;
     back = never_back;
+    watch = record { wait = refl; keeper = refl; first = never_silent };
+    unnamed = refl;
     recorder = refl;
     peers = search rules;
   },
