@@ -108,10 +108,7 @@ fn first_once<'a, R: Files>(
 }
 
 // The first file of a recording that gives its octets only once and is read before another one.
-fn once_of<'a, R: Files>(
-    rt: &R,
-    recording: Recording<'a>,
-) -> Result<Option<&'a str>, AllocError> {
+fn once_of<'a, R: Files>(rt: &R, recording: Recording<'a>) -> Result<Option<&'a str>, AllocError> {
     for path in recording.begin {
         if read_once_at(rt, path)?.is_some() {
             return Ok(Some(path.as_str()));

@@ -78,10 +78,7 @@ fn setup_of<R: AllocGlobal + Files>(disk: &Disk<'_, R>, text: &[u8]) -> Result<S
 }
 
 // Refuses the first recorded file of a setup that was read and gives its octets only once.
-fn refuse_again<R: AllocGlobal + Files>(
-    disk: &Disk<'_, R>,
-    setup: &Setup,
-) -> Result<(), Unready> {
+fn refuse_again<R: AllocGlobal + Files>(disk: &Disk<'_, R>, setup: &Setup) -> Result<(), Unready> {
     for begin in &setup.begins {
         refuse_read(disk, begin)?;
     }

@@ -104,7 +104,7 @@ abbrev pub silence_behind : Option ℕ → ℕ → ℕ → ℕ → Option ℕ �
 silence_behind None time wait records octet = None
 silence_behind (Some last) time wait records octet =
     if nat_lt (last + wait) time then
-      Some (record { from = last; seconds = time - last; records = records; octet = octet })
+    Some (record { from = last; seconds = time - last; records = records; octet = octet })
     else None
 
 -- it counts while a session is kept up

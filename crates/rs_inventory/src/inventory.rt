@@ -105,7 +105,12 @@ impl Inventory {
     }
 
     // Takes what a record says of a peer, if it says anything. Answers whether the session of that peer is up behind it.
-    fn take_note(&mut self, alloc: Global, time: u32, note: Option<Note>) -> Result<bool, AllocError>
+    fn take_note(
+        &mut self,
+        alloc: Global,
+        time: u32,
+        note: Option<Note>,
+    ) -> Result<bool, AllocError>
         ensures same { OnOk result (self.new ≡ record self.old { peers = self.new.peers }) }
         ensures takes { OnOk result (TakesNote self.old.peers time note self.new.peers) }
         ensures up { IfOk result (λ up. up ≡ is_note_up self.new.peers note) }

@@ -5,10 +5,7 @@ ghost use Rattle.rs_opening.specs.Opening.{AreReadSo, IsReadSo, room_of};
 
 use crate::sought_peer::sought;
 use rs_choice::Exchange;
-use rs_host::{
-    Joined, Reached, Recorded, Unready, first_unreadable, found_at,
-    in_pieces, open,
-};
+use rs_host::{Joined, Reached, Recorded, Unready, first_unreadable, found_at, in_pieces, open};
 use rs_inventory::{OutlineSlot, Outlined, PeerId};
 use rs_losses::{Sought, WithLosses};
 use rs_mrt::{FileReading, Lenient, RecordReader};
