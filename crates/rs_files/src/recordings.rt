@@ -50,7 +50,9 @@ fn recorded_files<R: AllocGlobal + Files>(
 fn refuse_unreadable<R: AllocGlobal + Files>(rt: &R, paths: &[String]) -> Result<(), Unready> {
     let mut recordings = Vec::new(rt.alloc());
     for path in paths {
-        recordings.push(Recording::of_file(path)).map_err(|_| Unready::Memory)?;
+        recordings
+            .push(Recording::of_file(path))
+            .map_err(|_| Unready::Memory)?;
     }
     match first_unreadable(rt, &recordings)? {
         Some(file) => Err(Unready::by_path(rt.alloc(), file.path)),

@@ -62,7 +62,8 @@ impl<'a> Contents<'a> {
         if tail == Tail::Lenient {
             held.take_end(None);
         }
-        let (Ok(name), Ok(seams)) = (name_of(rt.alloc(), recording), Seams::of(rt, recording)) else {
+        let (Ok(name), Ok(seams)) = (name_of(rt.alloc(), recording), Seams::of(rt, recording))
+        else {
             return Err(FileFault::Memory);
         };
         Ok(Contents {
@@ -109,13 +110,7 @@ pub fn read_contents<'a, R: AllocGlobal + Files>(
     recording: Recording<'a>,
     bounds: Bounds,
 ) -> Result<Contents<'a>, FileFault> {
-    contents_at(
-        rt,
-        recording,
-        bounds,
-        setup.plan.local().peer_id(),
-        None,
-    )
+    contents_at(rt, recording, bounds, setup.plan.local().peer_id(), None)
 }
 
 /// What a recording holds within bounds, by its outline. If the outline isn't known, the recording is read for it. It

@@ -126,11 +126,7 @@ fn records_of<'b>(
 }
 
 // The records of the peer of a number.
-fn records_by<'b>(
-    setup: &Setup,
-    all: &'b [Contents<'_>],
-    peer: usize,
-) -> Option<&'b PeerRecords> {
+fn records_by<'b>(setup: &Setup, all: &'b [Contents<'_>], peer: usize) -> Option<&'b PeerRecords> {
     if peer >= setup.plan.count() {
         return None;
     }

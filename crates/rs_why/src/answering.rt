@@ -198,9 +198,7 @@ fn refuse_read_once<R: AllocGlobal + Files>(
     let alloc = rt.alloc();
     let mut recordings = setup.recordings(alloc)?;
     for recording in setup.recordings(alloc)? {
-        recordings
-            .push(recording)
-            .map_err(|_| Unanswered::Memory)?;
+        recordings.push(recording).map_err(|_| Unanswered::Memory)?;
     }
     match first_unreadable(rt, &recordings)? {
         Some(file) if file.number >= setup.files.len() => {
