@@ -1,11 +1,11 @@
 -- The sessions of a peer with one event more.
-use Rattle.std.proofs.Common.{◌≡◌, ◌∙◌, sym, ap, refl, ℕ, ◌-◌, Bool, true, false, cond, List, [], ◌∷◌, ◌++◌, length, append-nil, slice_get}
+use Rattle.std.proofs.Common.{◌≡◌, ◌∙◌, ap, refl, ℕ, ◌-◌, Bool, true, false, cond, List, [], ◌∷◌, ◌++◌, length, append-nil, slice_get}
 use Rattle.std.proofs.Common.{Option, Some, None, sub-one}
 use Rattle.std.specs.List.{last_or}
 use Rattle.std.specs.Option.{option_or}
 use Rattle.rs_inventory.specs.declared.sessions.SessionTimes.{SessionTimes}
 use Rattle.rs_inventory.specs.Sessions.{Event, Up, Shown, Down, came_up, coming_up, end_by, ended_at, is_ended, is_known, sessions_of}
-use Rattle.rs_inventory.specs.Sessions.{up_before, was_up, with_end, with_shown}
+use Rattle.rs_inventory.specs.Sessions.{was_up, with_end, with_shown}
 
 -- the last of the sessions ends
 pub with_end-last : (time : ℕ) (sessions : List SessionTimes) (last : SessionTimes)
