@@ -1,27 +1,17 @@
 //! What is known of the recorded files of an exchange once they were read: whether the session of each peer is up at
 //! their end (RFC 4271, section 8.2.2), and the notes.
 //!
-//! Our choices: of a session it is only told that it is down if a recorded change of state or the last record of the peer
-//! shows that. If losses are inferred, the file of a peer is read once more for its session.
+//! Our choice: if losses are inferred, the file of a peer is read once more for its session.
 
 use rs_host::open_recording;
 use rs_inventory::{Inventory, PeerRecords, read_outline};
 use rs_losses::{Sought, WithLosses};
 use rs_mrt::{Bounds, Lenient, Losses, RecordReader};
-use rs_notes::{Contents, Outlines, Subject, Telling, contents_of, notes_of};
+use rs_notes::{Contents, Down, Outlines, Subject, Telling, contents_of, down_of, notes_of};
 use rs_opening::sought;
 use rs_setup::{Recording, Setup};
 use std::alloc::AllocError;
 use std::fs::Files;
-
-/// That the session of a peer is not up at the end of what was read.
-#[derive(Clone, Copy, Debug, PartialEq, Eq, Drop)]
-pub enum Down {
-    /// It was lost last at this time, in seconds since 1970.
-    Since(u32),
-    /// It has not begun.
-    NotBegun,
-}
 
 /// What is known of the session of a peer at the end of what was read.
 #[derive(Clone, Copy, Debug, PartialEq, Eq, Drop)]
@@ -209,19 +199,4 @@ fn records_of<'a>(setup: &Setup, peer: usize, held: &'a Inventory) -> Option<&'a
         return None;
     }
     held.peers().get(&setup.plan.peer(peer).peer_id())
-}
-
-// That a session is down behind these records of its peer, if they show it.
-fn down_of(records: &PeerRecords) -> Option<Down> {
-    let course = records.course();
-    if course.up {
-        return None;
-    }
-    let has_states = records.state_changes() > 0;
-    match records.sessions().last().and_then(|last| last.down) {
-        Some(time) if has_states || course.lost => Some(Down::Since(time)),
-        Some(_) => None,
-        None if has_states && !course.inside => Some(Down::NotBegun),
-        None => None,
-    }
 }

@@ -34,7 +34,7 @@ pub use built::Built;
 pub use causes::line_with_cause;
 pub use import_fields::hand_rpki;
 pub use import_text::{PatternText, rpki_validity, validity_key, validity_name};
-pub use known::{Down, Known, PeerSession, Whose, inferred_of, known_of, sessions_of};
+pub use known::{Known, PeerSession, Whose, inferred_of, known_of, sessions_of};
 pub use lines::{PROGRAM, line};
 pub use names::{
     PrefixText, add_again, add_down, add_gets, asn_at, downs_text, name_at, name_width, names_text,
@@ -46,6 +46,7 @@ pub use reasons::{
     step_name,
 };
 pub use reply::{Reply, answer_with};
+pub use rs_notes::Down;
 pub use route_fields::{DOUBT, hand_attributes, hand_doubt, hand_route};
 pub use route_text::{
     attributes_text, community_texts, hex_text, large_community_texts, lists_large_communities,

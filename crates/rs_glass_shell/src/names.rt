@@ -1,8 +1,9 @@
 //! Peers and prefixes as texts.
 
-use crate::known::{Down, PeerSession};
+use crate::known::PeerSession;
 use rs_choice::Exchange;
 use rs_host::Utc;
+use rs_notes::Down;
 use rs_update::Prefix;
 use std::alloc::{AllocError, Global};
 use std::fmt;

@@ -112,7 +112,7 @@ abbrev pub silence_while : Bool → Option Silence → Option Silence
 silence_while up None = None
 silence_while up (Some silence) = if up then Some silence else None
 
--- what is told with one more record, where the session of its peer is up behind it or not
+-- times without any record, after one more; `up` says whether the session of its peer is up behind it
 abbrev pub watch_with : Finding → Bool → Option Silence → Watch → Watch
 watch_with one up silence watch = record {
   wait = max watch.wait one.hold;

@@ -1,5 +1,5 @@
 -- Losses that are recorded without an address: the Peer IP Address is 0.0.0.0 (RFC 6396, section 4.4.4). Our choice:
--- they are told apart by their AS number.
+-- the AS number alone says whose such a loss is.
 use Rattle.std.specs.Prelude.{ℕ, ◌==◌, ◌&&◌, if◌then◌else◌, List, Option, Some, None, filter_map}
 use Rattle.rs_inventory.specs.Course.{is_loss}
 use Rattle.rs_inventory.specs.declared.finding.Finding.{Finding}

@@ -1,13 +1,14 @@
 //! The notes on what is lawful and yet suspicious in the records of peers. Records that are all later than
 //! what is read. Messages that aren't read, and large communities of the server without an effect. A recording that
 //! begins in mid-session, and a session that began again without a recorded loss. A loss that is recorded with the
-//! address of no peer.
+//! address of no peer. A session that is down at the end.
 //!
 //! Our choices: a session gets such a note only if it did not close before the end of its file. If it did, its routes are
 //! gone. Without `large_communities` the configuration asks for large communities to have no effect, so the note on them
 //! is no reason for a status.
 
 use crate::contents::Contents;
+use crate::down::{SEVERAL_DOWN, down_at_end, down_told};
 use crate::group::{Detail, Group, Told};
 use crate::lost::{Lost, lost_of};
 use crate::note::{
@@ -33,6 +34,8 @@ pub(crate) struct Doubts<'a> {
     inside: Group<'a>,
     again: Group<'a>,
     lost: Group<'a>,
+    // Peers whose sessions are down at the end.
+    down: Group<'a>,
 }
 
 impl<'a> Doubts<'a> {
@@ -45,6 +48,7 @@ impl<'a> Doubts<'a> {
             inside: Group::none(alloc),
             again: Group::none(alloc),
             lost: Group::none(alloc),
+            down: Group::none(alloc),
         }
     }
 
@@ -100,6 +104,11 @@ impl<'a> Doubts<'a> {
         if course.inside {
             self.inside.add(name, inside_told(alloc, name));
         }
+        if subject.telling == Telling::All {
+            if let Some(down) = down_at_end(subject, &contents.held, records, spec.peer_id()) {
+                self.down.add(name, down_told(alloc, name, down));
+            }
+        }
         if subject.inferred {
             return;
         }
@@ -135,6 +144,7 @@ impl<'a> Doubts<'a> {
             &self.lost,
             "losses are recorded without their addresses; --losses inferred counts them",
         );
+        notes.add_group_as_asked(alloc, &self.down, SEVERAL_DOWN);
     }
 }
 

@@ -1,11 +1,12 @@
-//! The notes on an exchange as a whole: recorded files in which times go back, a subnet in which nobody is, and a server that no
-//! record names.
+//! The notes on an exchange as a whole: recorded files in which times go back or a piece is missing, a subnet in which
+//! nobody is, and a server that no record names.
 //!
 //! Our choice: a server gets its note only if messages are recorded and each file could be read again.
 
 use crate::contents::{Contents, contents_of};
 use crate::note::{back_line, back_lines, server_line, subnet_line};
 use crate::notes::Notes;
+use crate::silent::add_silence;
 use rs_inventory::{Back, PeerId};
 use rs_setup::{Recording, Setup};
 use rs_types::Prefix;
@@ -14,6 +15,7 @@ use std::alloc::Global;
 /// Adds the notes.
 pub(crate) fn add_exchange(alloc: Global, setup: &Setup, all: &[Contents<'_>], notes: &mut Notes) {
     add_back(alloc, all, notes);
+    add_silence(alloc, all, notes);
     if let Some(subnet) = setup.plan.local().subnet {
         if is_deserted(setup, subnet) {
             notes.add(subnet_line(alloc, subnet));

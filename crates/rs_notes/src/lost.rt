@@ -63,9 +63,9 @@ fn loss_at(
     }
 }
 
-// Whether the session of a peer was up at a time: the last one that came up before did not go down. If none is recorded
-// so, the peer has a record from before.
-fn was_up(records: &PeerRecords, time: u32) -> bool {
+/// Whether the session of a peer was up at a time: the last one that came up before did not go down. If none is recorded
+/// so, the peer has a record from before.
+pub(crate) fn was_up(records: &PeerRecords, time: u32) -> bool {
     let mut up = match records.course().first {
         Some(first) => first <= time,
         None => false,

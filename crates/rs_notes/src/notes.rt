@@ -14,6 +14,7 @@ use crate::import_notes::add_empty_lists;
 use crate::look::{Look, look_at};
 use crate::mistakes::{Mistakes, may_be_cut};
 use crate::subject::{Close, Ending, Subject, Telling};
+use crate::unnamed::add_unnamed;
 use rs_choice::PeerSpec;
 use rs_inventory::Inventory;
 use rs_mrt::{Bounds, Tail};
@@ -157,6 +158,7 @@ pub fn notes_of<R: AllocGlobal + Files>(
     told.mistakes.add_to(alloc, subject, &mut notes);
     if subject.telling != Telling::Mistakes {
         told.doubts.add_to(alloc, subject, &mut notes);
+        add_unnamed(alloc, subject, all, &mut notes);
         add_empty_lists(alloc, setup, &mut notes);
         add_exchange(alloc, setup, all, &mut notes);
     }

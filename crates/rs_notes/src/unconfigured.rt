@@ -48,8 +48,8 @@ fn counts_of(
     Ok(counts)
 }
 
-// Whether one of these recordings has the last file of another one.
-fn is_counted(earlier: &[Contents<'_>], recording: Recording<'_>) -> bool {
+/// Whether one of these recordings has the last file of another one.
+pub(crate) fn is_counted(earlier: &[Contents<'_>], recording: Recording<'_>) -> bool {
     let mut earlier = earlier.iter();
     earlier.any(|contents| contents.recording.file == recording.file)
 }
