@@ -39,13 +39,13 @@ impl<'a, R: Files> Joined<'a, R> {
         })
     }
 
-    // Opens the next file. It counts as reached even if it can't be opened.
-    fn open_next(&mut self) -> io::Result<()> {
-        self.place = self.place.saturating_add(1);
+    // Opens the file at a place. It counts as reached even if it can't be opened.
+    fn open_at(&mut self, place: usize) -> io::Result<()> {
+        self.place = place;
         if let Some(reached) = self.reached {
-            reached.set(self.place);
+            reached.set(place);
         }
-        self.file = File::open(self.rt, self.recording.path(self.place))?;
+        self.file = File::open(self.rt, self.recording.path(place))?;
         Ok(())
     }
 }
@@ -53,8 +53,11 @@ impl<'a, R: Files> Joined<'a, R> {
 impl<R: Files> Read for Joined<'_, R> {
     fn read(&mut self, buf: &mut [u8]) -> io::Result<usize> {
         let mut count = self.file.read(buf)?;
-        while count == 0 && !buf.is_empty() && self.place < self.recording.begin.len() {
-            self.open_next()?;
+        for place in self.place.saturating_add(1)..self.recording.count() {
+            if count > 0 || buf.is_empty() {
+                break;
+            }
+            self.open_at(place)?;
             count = self.file.read(buf)?;
         }
         Ok(count)

@@ -35,7 +35,7 @@ impl Reached {
 
     /// The path of the file of a recording that is read.
     pub fn path<'a>(&self, recording: Recording<'a>) -> &'a str
-        ensures { (place : ℕ) × (result.now ≡ path_at recording place) }
+        ensures { (place : ℕ) × (result.now ≡ path_at recording.entry place) }
     {
         recording.path(self.place.load(Ordering::SeqCst))
     }
@@ -54,9 +54,15 @@ pub fn unread_at(alloc: Global, setup: &Setup, reached: &[Reached], peer: usize)
     let Some(recording) = setup.recording(peer) else {
         return Unready::Memory;
     };
-    let path = match reached.get(peer) {
+    Unready::by_path(alloc, path_at(reached.get(peer), recording))
+}
+
+// The path of the file of a recording that is read: of the first one if it isn't known how far it was read.
+fn path_at<'a>(reached: Option<&Reached>, recording: Recording<'a>) -> &'a str
+    ensures { (place : ℕ) × (result.now ≡ path_at recording.entry place) }
+{
+    match reached {
         Some(reached) => reached.path(recording),
         None => recording.path(0),
-    };
-    Unready::by_path(alloc, path)
+    }
 }
