@@ -16,7 +16,7 @@ use Rattle.rs_inventory.specs.Back.{TellsBack, back_behind, first_back}
 use Rattle.rs_inventory.specs.Course.{course_of}
 use Rattle.rs_inventory.specs.Inventory.{Content, Holds, TakesNote, WithCounts, earlier_of, first_of, is_content_up, is_note_up, is_one_up}
 use Rattle.rs_inventory.specs.Inventory.{known_of, later_of, peer_at, silence_before, sum_of, with_back, with_unnamed}
-use Rattle.rs_inventory.specs.Silence.{Watches, is_kept_up, is_noted_up, is_some_up, silence_behind, silence_while, watch_with}
+use Rattle.rs_inventory.specs.Silence.{Watches, is_noted_up, is_some_up, silence_behind, silence_while, watch_with}
 use Rattle.rs_inventory.specs.Times.{IsEarliest, IsLatest, known_sum}
 use Rattle.rs_inventory.specs.Told.{peer_cmp, same_peer, told_in, told_of}
 use Rattle.rs_inventory.specs.Unnamed.{unnamed_by}

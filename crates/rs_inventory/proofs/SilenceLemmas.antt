@@ -13,7 +13,7 @@ use Rattle.rs_inventory.specs.Times.{IsLatest, known_sum}
 use Rattle.rs_inventory.specs.declared.finding.Finding.{Finding}
 use Rattle.rs_inventory.specs.declared.silence.Silence.{Silence}
 use Rattle.rs_inventory.specs.declared.silence.Watch.{Watch}
-use Rattle.rs_inventory.proofs.BackLemmas.{none-late, not-empty, split-push}
+use Rattle.rs_inventory.proofs.BackLemmas.{not-empty, split-push}
 
 -- ---- how long there may be no record, and who keeps a session up
 

@@ -1,6 +1,5 @@
 -- Lists that are known by the paths of their files.
-use Rattle.std.proofs.Common.{◌≡◌, ℕ, List, [], ◌∷◌, ◌++◌, String, Global, subst, string_bytes}
-use Rattle.std.proofs.lemmas.List.Elements.{All-push}
+use Rattle.std.proofs.Common.{ℕ, List, subst, string_bytes}
 use Rattle.rs_setup.specs.Known.{AreKnown, IsAmong}
 use Rattle.rs_setup.specs.declared.lists.Known.{Known}
 

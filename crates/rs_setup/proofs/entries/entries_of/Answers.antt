@@ -1,4 +1,4 @@
-use Rattle.std.proofs.Common.{◌≡◌, ◌∙◌, ◌+◌, [], ◌∷◌, ◌++◌, length, take, sym, ap, arith}
+use Rattle.std.proofs.Common.{◌≡◌, ◌∙◌, ◌+◌, [], ◌∷◌, ◌++◌, length, take, sym, ap}
 use Rattle.std.proofs.lemmas.List.{length-append, take_more}
 use Rattle.toml.specs.Data.{push_item}
 use Rattle.toml.specs.View.{items_view, view}

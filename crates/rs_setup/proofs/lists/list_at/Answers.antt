@@ -1,4 +1,4 @@
-use Rattle.std.proofs.Common.{◌≡◌, ◌∙◌, [], ◌∷◌, sym, ap, subst, string_bytes}
+use Rattle.std.proofs.Common.{string_bytes}
 use Rattle.std.proofs.lemmas.List.Elements.{All-push}
 use Rattle.rs_setup.specs.Known.{IsAmong}
 use Rattle.rs_setup.specs.declared.lists.Known.{Known}

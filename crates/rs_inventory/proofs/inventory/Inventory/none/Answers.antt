@@ -12,8 +12,8 @@ returns-clause-holds c = (
     last = refl;
     octets = refl;
     back = never_back;
-    watch = record { wait = refl; keeper = refl; first = never_silent };
-    unnamed = refl;
+    watch = rw c.none.ensures (record { wait = refl; keeper = refl; first = never_silent });
+    unnamed = search rules;
     recorder = refl;
     peers = search rules;
   },
