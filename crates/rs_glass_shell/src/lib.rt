@@ -46,12 +46,12 @@ pub use reasons::{
     step_name,
 };
 pub use reply::{Reply, answer_with};
-pub use rs_notes::Down;
 pub use route_fields::{DOUBT, hand_attributes, hand_doubt, hand_route};
 pub use route_text::{
     attributes_text, community_texts, hex_text, large_community_texts, lists_large_communities,
     path_text,
 };
+pub use rs_notes::Down;
 pub use serving::{served, served_as_checked};
 pub use setup::{peer_named, peer_of_name};
 pub use shell_words::add_shell_word;
