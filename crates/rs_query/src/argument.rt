@@ -47,6 +47,8 @@ pub(crate) enum Tie {
     Against(&'static str),
     // It is only given beside the other one.
     With(&'static str),
+    // It is only given beside the first one, and not beside the second.
+    WithNot(&'static str, &'static str),
 }
 
 // An option of a command.
@@ -80,6 +82,8 @@ impl Row {
             Tie::Free => Ok(self.plain(alloc)),
             Tie::Against(other) => self.plain(alloc).conflicts_with(other),
             Tie::With(other) => self.plain(alloc).requires_arg(other),
+            // `clap` lets an option's requirement go where another option rules it out.
+            Tie::WithNot(one, other) => self.plain(alloc).requires_arg(one)?.conflicts_with(other),
         }
     }
 

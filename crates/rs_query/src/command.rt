@@ -62,7 +62,7 @@ const COMMANDS: [Entry; 10] = [
     (
         "peers",
         "What is in recorded files: which peers, sessions and prefixes?",
-        &[FILES, FILES_BEHIND, JSON_OR_TOML, TOML],
+        &[FILES, FILES_BEHIND_NOT_JSON, JSON_OR_TOML, TOML],
     ),
     (
         "check",
@@ -323,6 +323,11 @@ const FILES_BEHIND: Row = Row {
     given: Given::Often,
     tie: Tie::With("toml"),
     help: "Recorded files that the configuration names behind, in this order",
+};
+
+const FILES_BEHIND_NOT_JSON: Row = Row {
+    tie: Tie::WithNot("toml", "json"),
+    ..FILES_BEHIND
 };
 
 const FROM: Row = Row {
