@@ -2,13 +2,13 @@
 //! program ends. What they need of a command line is that of `rs_options`, and passed on.
 //!
 //! Reading order: `fault` (why a file can't be read), `whole` (a file that is read whole), `recorded` (a recorded file,
-//! which is read in pieces of some size), `joined` (the octets of
-//! a recording), `reached` and `seams` (which of its files has an octet). `file_identity` (which file a path names), `read_once` (what is seen before any is
-//! opened). `unready` (why what a program needs can't be read), `list_disk` (the files of configurations and lists),
-//! `setup_file` (the configuration). `part_file` (files that are written whole or not at all), `overwritten` (that none
-//! of them is written over a file that is read). `escaped` (texts whose control characters are escaped), `times` (times
-//! of records as texts, RFC 6396, section 2). `arguments` (the words of the command line). `refusal` (why a command line
-//! or a configuration is refused), `line` and `status` (how a program ends).
+//! which is read in pieces of some size). `joined` (the octets of a recording), `reached` and `seams` (which of its files
+//! has an octet). `file_identity` (which file a path names), `read_once` (what is seen before any is opened). `unready`
+//! (why what a program needs can't be read), `list_disk` (the files of configurations and lists), `setup_file` (the
+//! configuration). `part_file` (files that are written whole or not at all), `overwritten` (that none of them is written
+//! over a file that is read). `escaped` (texts whose control characters are escaped), `times` (times of records as texts,
+//! RFC 6396, section 2). `arguments` (the words of the command line). `refusal` (why a command line or a configuration is
+//! refused), `line` and `status` (how a program ends).
 //!
 //! A call that allocates fails if memory is refused.
 #![tactic(auto)]

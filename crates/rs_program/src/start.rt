@@ -84,8 +84,8 @@ pub fn ready_files<'a, R: AllocGlobal + Files, F: Read + Drop, O: Fn(Joined<'a, 
     }
 }
 
-/// How the program ends if a run over the recordings of a setup stops short, which were read so far. If a read failed, the
-/// file is named, unless memory for that is refused.
+/// How the program ends if a run over the recordings of a setup doesn't succeed. If a read failed, `reached` tells which
+/// file of the recording was being read. It is named, unless memory for that is refused.
 pub fn ended_by(alloc: Global, setup: &Setup, reached: &[Reached], fault: RunFault) -> Ended
     requires { NamesPeer fault setup.now }
     ensures { (options : Bor Options) → CanTell result (Some setup.entry) (Some options) }

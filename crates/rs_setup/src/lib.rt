@@ -1,11 +1,11 @@
-//! What the configuration of an exchange sets up: the server, its peers, the path of each peer's recorded file, and
-//! import policy.
+//! What the configuration of an exchange sets up: the server, its peers, the paths of the files of each peer's recording,
+//! and import policy.
 //!
-//! Reading order: `setup` (what is set up, and why a configuration is refused), `peers` (the server's table
-//! and those of the peers), `recording` (the files of a peer's recording), `keys` (a table's keys), `values`. Import policy: `import_setup` (what a configuration says
-//! of it), `entries` (the lists in it), `list_files` (where its other lists are read from), `lists` (the policy by what
-//! these say). Then `laws`. A configuration is a TOML table (our choice: RFC 4271 leaves configuration to the
-//! implementation).
+//! Reading order: `setup` (what is set up, and why a configuration is refused), `peers` (the server's table and those of
+//! the peers), `recording` (the files of a peer's recording). `keys` (a table's keys), `values`. Import policy:
+//! `import_setup` (what a configuration says of it), `entries` (the lists in it), `list_files` (where its other lists are
+//! read from), `lists` (the policy by what these say). Then `laws`. A configuration is a TOML table (our choice: RFC 4271
+//! leaves configuration to the implementation).
 //!
 //! A call that allocates fails if memory is refused.
 #![tactic(auto)]
