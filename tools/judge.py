@@ -84,16 +84,17 @@ class Bench:
 # What a strict run may tell beside what is judged here.
 DOUBTS = r"(\S+ is empty|their files are empty|a loss at .*|losses are recorded .*|.* not read.*|large communities .*)"
 # And what is no reason for its status.
-NO_REASON = r"note: peers? [\w, ]+: large communities 64500:\*:\* have no effect "
+NO_REASON = r"note: peers? [\w, ]+: (large communities 64500:\*:\* have no effect |its session is down since |its session has not begun;|their sessions are down;)"
 
 
 def wrong_notes(server, peers, report, files, told, strict, errors):
     """The lines that may not be told, and those that must be: a run notes nothing but peers whose files gave only the close, files in which the session of a peer
-    closed within a record that the end of the file cuts short, and, if it is strict, what `session_notes`, `server_note`, `filtered_note` and `list_notes` say."""
+    closed within a record that the end of the file cuts short, and, if it is strict, what `session_notes`, `down_note`, `server_note`, `filtered_note` and `list_notes` say."""
     silent = set(re.findall(r"^peer (\S+) changes 1 ", report, re.M))
     ends = re.findall(r"^peer .* close (.*)$", report, re.M)
     cut = {note: name for (name, octets), end in zip(files, ends) if end in ("mrt M1", "mrt M2") for note in cut_notes(name, octets, len(files), strict)}
-    must = session_notes(peers, ends, files) + server_note(server, files) + filtered_note(server, peers, files, errors) if strict else []
+    must = session_notes(peers, ends, files) + down_note(peers, ends, files) if strict else []
+    must += server_note(server, files) + filtered_note(server, peers, files, errors) if strict else []
     lines = told.splitlines()
     wrong = [line for line in must if lines.count(line) != 1]
     for form in list_notes(server, peers) if strict else []:
@@ -146,6 +147,24 @@ def session_notes(peers, ends, files):
         text = "a session of each began again without a recorded loss; their earlier routes stay"
         lines.append(f"peers {names}: {text}; of {again[0][0]}: {again[0][1]}")
     return [f"route_server: note: {line}" for line in lines]
+
+
+def down_note(peers, ends, files):
+    """The note on peers whose sessions went on to the end of their files, and are down there."""
+    found = []
+    for peer, end, (_, octets) in zip(peers, ends, files):
+        is_down, time = slow_reading.down(octets, peer) if end == "end" else (False, None)
+        if is_down:
+            shown = "" if time is None else datetime.datetime.fromtimestamp(time, datetime.timezone.utc).strftime("down since %Y-%m-%d %H:%M:%S UTC")
+            found.append((peer.name, shown))
+    if not found:
+        return []
+    (name, shown), names = found[0], names_text([name for name, _ in found])
+    if len(found) > 1:
+        text = "their sessions are down; their tables are as if they were up"
+        return [f"route_server: note: peers {names}: {text}; of {name}: {shown or 'it has not begun'}"]
+    text = f"its session is {shown}" if shown else "its session has not begun"
+    return [f"route_server: note: peer {name}: {text}; its table is as if it were up"]
 
 
 def names_text(names):

@@ -317,6 +317,17 @@ def notes(file, peer):
     return bool(told) and told[0][1] in ("update", "other", "gone"), again[-1] if again else None
 
 
+def down(file, peer):
+    """Whether a peer's session is down at the end of its recording, by a change of state or by its last record; and since when, None where it has not begun."""
+    told = [(record.time, what[1]) for record in records(file)[0] for what in [said(record)] if what and what[0] == (peer.asn, peer.address)]
+    shows = [place for place, (_, what) in enumerate(told) if what in ("update", "up")]
+    losses = [time for time, what in told[shows[-1] + 1 if shows else 0 :] if what in ("loss", "gone")]
+    has_states = any(what in ("up", "loss", "state") for _, what in told)
+    if losses:
+        return has_states or told[-1][1] in ("loss", "gone"), losses[0]
+    return has_states and not shows and told[0][1] not in ("update", "other", "gone"), None
+
+
 def recorders(file):
     """The local AS and address of each message of an IPv4 session with four-octet AS numbers, in order."""
     found = []
