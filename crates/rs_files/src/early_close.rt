@@ -21,9 +21,9 @@ pub(crate) struct EarlyClose {
 /// Where the session of a peer closes before the end of a recording; none if it doesn't. The recording is read within the
 /// bounds and by the standard that are asked for. Fails with `Unread` if a file of it can't be read, with `Memory` if
 /// memory is refused.
-pub(crate) fn early_close_at<R: AllocGlobal + Files>(
-    rt: &R,
-    recording: Recording<'_>,
+pub(crate) fn early_close_at<'a, R: AllocGlobal + Files>(
+    rt: &'a R,
+    recording: Recording<'a>,
     peer: PeerId,
     query: &CheckQuery,
 ) -> Result<Option<EarlyClose>, Unready> {

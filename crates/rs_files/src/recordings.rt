@@ -73,9 +73,9 @@ fn recorded_file<R: AllocGlobal + Files>(rt: &R, path: String) -> Result<Recorde
 
 /// The inventory of a recording, of as much as is read within bounds. Fails with `Unread` if a file of it can't be read,
 /// with `Memory` if memory is refused.
-pub(crate) fn inventory_at<R: AllocGlobal + Files>(
-    rt: &R,
-    recording: Recording<'_>,
+pub(crate) fn inventory_at<'a, R: AllocGlobal + Files>(
+    rt: &'a R,
+    recording: Recording<'a>,
     bounds: Bounds,
 ) -> Result<Inventory, Unready> {
     let alloc = rt.alloc();

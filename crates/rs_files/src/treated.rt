@@ -26,9 +26,9 @@ enum Told {
 
 /// How many UPDATEs of a peer in a recording are treated as withdrawn by RFC 7606. The recording is read within the bounds
 /// that are asked for. Fails with `Unread` if a file of it can't be read, with `Memory` if memory is refused.
-pub(crate) fn treated_at<R: AllocGlobal + Files>(
-    rt: &R,
-    recording: Recording<'_>,
+pub(crate) fn treated_at<'a, R: AllocGlobal + Files>(
+    rt: &'a R,
+    recording: Recording<'a>,
     peer: PeerId,
     query: &CheckQuery,
 ) -> Result<u64, Unready> {

@@ -181,9 +181,9 @@ fn contents_by<'b, 'a>(
 
 // The content of a recording within bounds, with the losses of a peer inferred. None if it can't be read, or if memory
 // is refused.
-fn inferred_at<R: AllocGlobal + Files>(
-    rt: &R,
-    recording: Recording<'_>,
+fn inferred_at<'a, R: AllocGlobal + Files>(
+    rt: &'a R,
+    recording: Recording<'a>,
     bounds: Bounds,
     who: Sought,
 ) -> Option<Inventory> {

@@ -151,9 +151,9 @@ fn outline_of_compressed(alloc: Global, compression: Compression) -> Outline {
 }
 
 // The outline of a recording, which is read up to a time.
-fn outline_at<R: AllocGlobal + Files>(
-    rt: &R,
-    recording: Recording<'_>,
+fn outline_at<'a, R: AllocGlobal + Files>(
+    rt: &'a R,
+    recording: Recording<'a>,
     until: Option<u32>,
     server: PeerId,
 ) -> Result<Outline, FileFault> {

@@ -176,10 +176,10 @@ fn later(one: Option<u32>, other: Option<u32>) -> Option<u32> {
 
 // What the recording of a peer shows; its changes are counted. If it can be read, its records are only unknown if memory
 // was refused.
-fn heard<R: AllocGlobal + Files>(
-    rt: &R,
+fn heard<'a, R: AllocGlobal + Files>(
+    rt: &'a R,
     records: Option<&PeerRecords>,
-    recording: Recording<'_>,
+    recording: Recording<'a>,
     manner: Manner,
     changes: &mut Changes,
 ) -> Result<PeerTimes, Unanswered> {

@@ -62,7 +62,7 @@ pub fn progress_on<R: Files>(rt: &R, terminal: Option<Stderr>, setup: &Setup) ->
 
 /// Opens the recorded files of the peers, as `open_files` does, once each dump can be written: where one would take the
 /// place of a file that is read, or the folder takes no files, nothing is read or written.
-pub fn ready_files<'a, R: AllocGlobal + Files, F: Read + Drop, O: Fn(Joined<'a, R>) -> F>(
+pub fn ready_files<'a, R: AllocGlobal + Files + 'a, F: Read + Drop, O: Fn(Joined<'a, R>) -> F>(
     rt: &'a R,
     setup: &'a Setup,
     options: &Options,
