@@ -21,6 +21,7 @@ pub(crate) fn answer<R: AllocGlobal + Env + Files + Threads + Wait + Sync + Prin
 ) -> Result<Reply, NoReply>
 where
     R::File: Send,
+    R::Dir: Send,
 {
     let query = match command_line(rt) {
         Ok(query) => query,
@@ -40,6 +41,7 @@ fn answer_to<R: AllocGlobal + Env + Files + Threads + Wait + Sync + Print>(
 ) -> Result<Reply, Unanswered>
 where
     R::File: Send,
+    R::Dir: Send,
 {
     match query {
         Query::Why(query) => why(rt, &query),

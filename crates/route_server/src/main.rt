@@ -12,11 +12,11 @@ ghost use Rattle.rs_program.specs.Texts.{CanTell};
 use rs_host::{DONE, Reached, configuration};
 use rs_mrt::{FileReading, IoWriter, Source};
 use rs_notes::{Findings, outlines_for};
-use rs_opening::Beside;
+use rs_opening::{Beside, open_files};
 use rs_options::{Options, Strictness};
 use rs_program::{
     Cleared, Counted, Ended, FolderOutlet, PROGRAM, Progress, command_line, end, ended_by,
-    progress_on, ready_files, run_status,
+    progress_on, refuse_unwritable, run_status,
 };
 use rs_run::{Ran, run_if};
 use rs_serve::Served;
@@ -66,6 +66,7 @@ fn serve<R: AllocGlobal + Files + Print + Eprint + Threads + Wait + Sync>(
 ) -> Result<u8, Ended>
 where
     R::File: Send,
+    R::Dir: Send,
     requires files { length setup.now.files.items ≡ length setup.now.plan.value.peers }
     requires ring { (1 ≤ options.now.ring) × (options.now.ring ≤ 65536) }
     requires shards { (1 ≤ options.now.shards) × (options.now.shards ≤ 16) }
@@ -79,7 +80,8 @@ where
         outlines: outlines.slots(),
         reached: &reached,
     };
-    let files = ready_files(rt, setup, options, reading, counted, beside)?;
+    let files = open_files(rt, setup, reading, counted, beside)?;
+    refuse_unwritable(rt, setup, options)?;
     let mut found = None;
     let ran = run_over(rt, setup, options, files, &reached, &progress, |served| {
         let findings = Findings::of(rt, setup, reading, strict, &outlines, served);
@@ -111,6 +113,7 @@ fn run_over<
 ) -> Result<Ran, Ended>
 where
     R::File: Send,
+    R::Dir: Send,
     requires one_for_each { length sources.items ≡ length setup.now.plan.value.peers }
     requires files { length setup.now.files.items ≡ length setup.now.plan.value.peers }
     requires room { All (λ source. S.room source ≤ 2 ^ 50) sources.items }

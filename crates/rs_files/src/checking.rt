@@ -43,6 +43,7 @@ pub fn check<R: AllocGlobal + Files + Env + Threads + Wait + Sync>(
 ) -> Result<Reply, Unanswered>
 where
     R::File: Send,
+    R::Dir: Send,
 {
     let alloc = rt.alloc();
     let path = query.config.as_str();
@@ -79,6 +80,7 @@ fn check_files<R: AllocGlobal + Files + Env + Threads + Wait + Sync>(
 ) -> Result<Reply, Unanswered>
 where
     R::File: Send,
+    R::Dir: Send,
     requires { length setup.now.files.items ≡ length setup.now.plan.value.peers }
 {
     let text = unreadable_text(rt, setup)?;
@@ -138,6 +140,7 @@ fn check_contents<R: AllocGlobal + Files + Threads + Wait + Sync>(
 ) -> Result<Reply, Unanswered>
 where
     R::File: Send,
+    R::Dir: Send,
     requires { length setup.now.files.items ≡ length setup.now.plan.value.peers }
 {
     let mut text = String::new(rt.alloc());
@@ -174,6 +177,7 @@ fn add_notes<R: AllocGlobal + Files + Threads + Wait + Sync>(
 ) -> Result<bool, Unanswered>
 where
     R::File: Send,
+    R::Dir: Send,
     requires { length setup.now.files.items ≡ length setup.now.plan.value.peers }
 {
     let subject = Subject {
@@ -203,6 +207,7 @@ fn add_import_notes<R: AllocGlobal + Files + Threads + Wait + Sync>(
 ) -> Result<(), Unanswered>
 where
     R::File: Send,
+    R::Dir: Send,
     requires { length setup.now.files.items ≡ length setup.now.plan.value.peers }
 {
     if !setup.plan.import().is_configured() || !are_in_full(files, setup) {

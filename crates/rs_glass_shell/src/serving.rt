@@ -43,6 +43,7 @@ pub fn served<R: AllocGlobal + Files + Threads + Wait + Sync>(
 ) -> Result<Built, Unanswered>
 where
     R::File: Send,
+    R::Dir: Send,
     requires { length setup.now.files.items ≡ length setup.now.plan.value.peers }
     ensures { IfOk result (λ built. built.tables.plan ≡ setup.now.plan.value) }
 {
@@ -65,6 +66,7 @@ pub fn served_as_checked<R: AllocGlobal + Files + Threads + Wait + Sync>(
 ) -> Result<Served, Unanswered>
 where
     R::File: Send,
+    R::Dir: Send,
     requires { length setup.now.files.items ≡ length setup.now.plan.value.peers }
     ensures { IfOk result (λ served. served.tables.plan ≡ setup.now.plan.value) }
 {
@@ -86,6 +88,7 @@ fn serve<R: AllocGlobal + Files + Threads + Wait + Sync>(
 ) -> Result<Served, Unanswered>
 where
     R::File: Send,
+    R::Dir: Send,
     requires { length setup.now.files.items ≡ length setup.now.plan.value.peers }
     ensures { IfOk result (λ served. served.tables.plan ≡ setup.now.plan.value) }
 {

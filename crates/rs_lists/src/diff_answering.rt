@@ -51,6 +51,7 @@ pub fn diff<R: AllocGlobal + Files + Threads + Wait + Sync + Print>(
 ) -> Result<Reply, Unanswered>
 where
     R::File: Send,
+    R::Dir: Send,
 {
     let (old, new) = configurations(rt, &query.old.config, &query.new.config)?;
     let (text, notes, differs) = compared(rt, &old, &new, query)?;
@@ -68,6 +69,7 @@ fn compared<R: AllocGlobal + Files + Threads + Wait + Sync + Print>(
 ) -> Result<(String, Vec<String>, bool), Unanswered>
 where
     R::File: Send,
+    R::Dir: Send,
     requires old { length old.now.files.items ≡ length old.now.plan.value.peers }
     requires new { length new.now.files.items ≡ length new.now.plan.value.peers }
 {

@@ -33,6 +33,7 @@ pub fn table<R: AllocGlobal + Files + Threads + Wait + Sync + Print>(
 ) -> Result<Reply, Unanswered>
 where
     R::File: Send,
+    R::Dir: Send,
 {
     let setup = configuration(rt, &query.tables.config)?;
     let client = peer_named(rt, &setup, &query.client)?;
@@ -58,6 +59,7 @@ pub fn missing<R: AllocGlobal + Files + Threads + Wait + Sync + Print>(
 ) -> Result<Reply, Unanswered>
 where
     R::File: Send,
+    R::Dir: Send,
 {
     let setup = configuration(rt, &query.tables.config)?;
     let client = peer_named(rt, &setup, &query.client)?;
@@ -102,6 +104,7 @@ pub fn summary<R: AllocGlobal + Files + Threads + Wait + Sync + Print>(
 ) -> Result<Reply, Unanswered>
 where
     R::File: Send,
+    R::Dir: Send,
 {
     let alloc = rt.alloc();
     let setup = configuration(rt, &query.tables.config)?;

@@ -36,7 +36,7 @@ pub struct Beside<'a> {
 /// Fails with `Unread` and the path of the first file that can't be opened. If each is there, it fails for a file that
 /// gives its octets only once, as a pipe does: if it is read before another one, or an earlier recording has it. Fails
 /// with `Memory` if memory is refused.
-pub fn open_files<'a, R: AllocGlobal + Files + 'a, F: Read + Drop, O: Fn(Joined<'a, R>) -> F>(
+pub fn open_files<'a, R: AllocGlobal + Files, F: Read + Drop, O: Fn(Joined<'a, R>) -> F>(
     rt: &'a R,
     setup: &'a Setup,
     reading: FileReading,

@@ -30,6 +30,7 @@ pub fn page<R: AllocGlobal + Files + Threads + Wait + Sync>(
 ) -> Result<Reply, Unanswered>
 where
     R::File: Send,
+    R::Dir: Send,
 {
     let alloc = rt.alloc();
     let setup = configuration(rt, &query.tables.config)?;

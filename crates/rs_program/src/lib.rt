@@ -30,5 +30,5 @@ pub use ended::{Ended, run_status, status};
 pub use folder_outlet::FolderOutlet;
 pub use progress::Progress;
 pub use rs_options::{read_command_line, read_words};
-pub use start::{command_line, end, ended_by, progress_on, ready_files};
+pub use start::{command_line, end, ended_by, progress_on, refuse_unwritable};
 pub use texts::{PROGRAM, line};

@@ -1,7 +1,6 @@
 //! What the program does before the run, and how it ends: all but the run itself.
 
-ghost use Rattle.std.specs.Prelude.{◌≡◌, ◌≤◌, ◌^◌, All, Some, IfErr, IfOk, length};
-ghost use Rattle.rs_opening.specs.Opening.{AreReadSo, room_of};
+ghost use Rattle.std.specs.Prelude.{◌≤◌, Some, IfErr, IfOk};
 ghost use Rattle.std.specs.Borrow.{Bor};
 ghost use Rattle.rs_options.specs.declared.options.Options.{Options};
 ghost use Rattle.rs_program.specs.Texts.{CanTell, NamesPeer};
@@ -11,16 +10,14 @@ use crate::files::octets_of_setup;
 use crate::progress::Progress;
 use crate::texts::{PROGRAM, line};
 use crate::tried::first_unwritable;
-use rs_host::{Joined, Reached, each_on_one_line, end_with, read_arguments, unread_at};
-use rs_mrt::FileReading;
-use rs_opening::{Beside, Replayed, open_files};
+use rs_host::{Reached, each_on_one_line, end_with, read_arguments, unread_at};
 use rs_options::{CommandLine, Options, WordsFault, read_command_line};
 use rs_outlet::RunFault;
 use rs_setup::Setup;
 use std::alloc::Global;
 use std::env::Env;
 use std::fs::Files;
-use std::io::{Read, Stderr};
+use std::io::Stderr;
 use std::process::ExitCode;
 
 // How the text begins that refuses a command line, as those of `clap` do.
@@ -60,27 +57,18 @@ pub fn progress_on<R: Files>(rt: &R, terminal: Option<Stderr>, setup: &Setup) ->
     Progress::new(terminal, total)
 }
 
-/// Opens the recorded files of the peers, as `open_files` does, once each dump can be written: where one would take the
-/// place of a file that is read, or the folder takes no files, nothing is read or written.
-pub fn ready_files<'a, R: AllocGlobal + Files + 'a, F: Read + Drop, O: Fn(Joined<'a, R>) -> F>(
-    rt: &'a R,
-    setup: &'a Setup,
+/// Fails with the first client whose dump can't be written: it would take the place of a file that is read, or the folder
+/// takes no files. Nothing is written. It also fails if memory is refused.
+pub fn refuse_unwritable<R: AllocGlobal + Files>(
+    rt: &R,
+    setup: &Setup,
     options: &Options,
-    reading: FileReading,
-    observed: O,
-    beside: Beside<'a>,
-) -> Result<Vec<Replayed<'a, F>>, Ended>
-    requires observed { O.IsAlwaysCallable observed }
-    requires one_for_each { length setup.now.files.items ≡ length setup.now.plan.value.peers }
-    ensures one_for_each { IfOk result (λ files. length files.items ≡ length setup.now.files.items) }
-    ensures read_so { IfOk result (λ files. AreReadSo reading setup.now.plan.value files.items) }
-    ensures room { IfOk result (λ files. All (λ file. room_of file ≤ 2 ^ 50) files.items) }
-    ensures refused { IfErr result (λ ended. CanTell ended (Some setup.entry) (Some options.entry)) }
+) -> Result<(), Ended>
+    ensures { IfErr result (λ ended. CanTell ended (Some setup.entry) (Some options.entry)) }
 {
-    let files = open_files(rt, setup, reading, observed, beside)?;
     match first_unwritable(rt, setup, options)? {
         Some(client) => Err(Ended::Run(RunFault::Dump(client))),
-        None => Ok(files),
+        None => Ok(()),
     }
 }
 

@@ -32,6 +32,7 @@ pub fn why<R: AllocGlobal + Files + Threads + Sync>(
 ) -> Result<Reply, Unanswered>
 where
     R::File: Send,
+    R::Dir: Send,
 {
     let setup = configuration(rt, &query.config)?;
     let outlines = Outlines::new(rt.alloc(), &setup, query.span.until);
@@ -47,6 +48,7 @@ fn explained<R: AllocGlobal + Files + Threads + Sync>(
 ) -> Result<Reply, Unanswered>
 where
     R::File: Send,
+    R::Dir: Send,
     requires { length setup.now.files.items ≡ length setup.now.plan.value.peers }
 {
     let alloc = rt.alloc();
@@ -80,6 +82,7 @@ pub fn history<R: AllocGlobal + Files + Threads + Sync>(
 ) -> Result<Reply, Unanswered>
 where
     R::File: Send,
+    R::Dir: Send,
 {
     let setup = configuration(rt, &query.config)?;
     let outlines = Outlines::new(rt.alloc(), &setup, query.span.until);
@@ -97,6 +100,7 @@ fn happened<R: AllocGlobal + Files + Threads + Sync>(
 ) -> Result<String, Unanswered>
 where
     R::File: Send,
+    R::Dir: Send,
     requires { length setup.now.files.items ≡ length setup.now.plan.value.peers }
 {
     if let Some(place) = &query.svg {
@@ -157,6 +161,7 @@ fn asked<R: AllocGlobal + Files + Threads + Sync>(
 ) -> Result<Question, Unanswered>
 where
     R::File: Send,
+    R::Dir: Send,
     requires { length setup.now.files.items ≡ length setup.now.plan.value.peers }
 {
     let errors = span.errors;
@@ -223,6 +228,7 @@ fn read<R: AllocGlobal + Files + Threads + Sync>(
 ) -> Result<Reading, Unanswered>
 where
     R::File: Send,
+    R::Dir: Send,
     requires { length setup.now.files.items ≡ length setup.now.plan.value.peers }
     ensures plan { IfOk result (λ reading. reading.tables.plan ≡ setup.now.plan.value) }
     ensures as_many { IfOk result (λ reading.
@@ -256,6 +262,7 @@ fn replayed<R: AllocGlobal + Files + Threads + Sync>(
 ) -> Result<History, Unanswered>
 where
     R::File: Send,
+    R::Dir: Send,
     requires { length setup.now.files.items ≡ length setup.now.plan.value.peers }
 {
     let alloc = rt.alloc();
