@@ -15,7 +15,7 @@ use rs_notes::{Findings, outlines_for};
 use rs_opening::{Beside, open_files};
 use rs_options::{Options, Strictness};
 use rs_program::{
-    Cleared, Ended, FolderOutlet, PROGRAM, Progress, Watched, command_line, end, ended_by,
+    Cleared, Counted, Ended, FolderOutlet, PROGRAM, Progress, command_line, end, ended_by,
     progress_on, refuse_unwritable, run_status,
 };
 use rs_run::{Ran, run_if};
@@ -75,12 +75,12 @@ where
     let progress = progress_on(rt, terminal, setup);
     let outlines = outlines_for(rt.alloc(), setup, reading.bounds, strict);
     let reached = Reached::first_of_each(rt.alloc(), setup)?;
-    let watched = |recording| Watched::new(recording, &progress);
+    let counted = |octets| Counted::new(octets, &progress);
     let beside = Beside {
         outlines: outlines.slots(),
         reached: &reached,
     };
-    let files = open_files(rt, setup, reading, watched, beside)?;
+    let files = open_files(rt, setup, reading, counted, beside)?;
     refuse_unwritable(rt, setup, options)?;
     let mut found = None;
     let ran = run_over(rt, setup, options, files, &reached, &progress, |served| {
@@ -108,7 +108,7 @@ fn run_over<
     options: &Options,
     sources: Vec<S>,
     reached: &[Reached],
-    progress: &Progress<Stderr>,
+    progress: &Progress,
     is_wanted: D,
 ) -> Result<Ran, Ended>
 where

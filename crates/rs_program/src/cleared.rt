@@ -4,33 +4,33 @@ ghost use Rattle.std.specs.Prelude.{◌≡◌};
 
 use crate::progress::Progress;
 use std::io;
-use std::io::{Eprint, Write};
+use std::io::Write;
 use std::marker::Model;
 
 /// A writer, as to the terminal on which a progress is shown: its line is taken away before anything is
 /// written. It takes just what the writer takes.
 #[derive(Drop)]
-pub struct Cleared<'a, W, E> {
+pub struct Cleared<'a, W> {
     inner: W,
-    progress: &'a Progress<E>,
+    progress: &'a Progress,
 }
 
-impl<'a, W, E> Model for Cleared<'a, W, E> {
+impl<'a, W> Model for Cleared<'a, W> {
     ghost Value = { W };
 
     ghost view = { λ cleared. cleared.inner };
 }
 
-impl<'a, W, E> Cleared<'a, W, E> {
+impl<'a, W> Cleared<'a, W> {
     /// Begins with a writer.
-    pub fn new(inner: W, progress: &'a Progress<E>) -> Cleared<'a, W, E>
+    pub fn new(inner: W, progress: &'a Progress) -> Cleared<'a, W>
         ensures { result ≡ inner }
     {
         Cleared { inner, progress }
     }
 }
 
-impl<'a, W: Write, E: Eprint> Write for Cleared<'a, W, E> {
+impl<'a, W: Write> Write for Cleared<'a, W> {
     ghost contents = { λ inner. W.contents inner };
 
     fn write(&mut self, buf: &[u8]) -> io::Result<usize> {

@@ -4,32 +4,32 @@ ghost use Rattle.std.specs.Prelude.{◌≡◌};
 
 use crate::progress::Progress;
 use std::io;
-use std::io::{Eprint, Read};
+use std::io::Read;
 use std::marker::Model;
 
 /// A reader whose octets are counted. It gives just what the reader gives, and a failed read counts nothing.
 #[derive(Drop)]
-pub struct Counted<'a, R, E> {
+pub struct Counted<'a, R> {
     inner: R,
-    progress: &'a Progress<E>,
+    progress: &'a Progress,
 }
 
-impl<'a, R, E> Model for Counted<'a, R, E> {
+impl<'a, R> Model for Counted<'a, R> {
     ghost Value = { R };
 
     ghost view = { λ counted. counted.inner };
 }
 
-impl<'a, R, E> Counted<'a, R, E> {
+impl<'a, R> Counted<'a, R> {
     /// Begins with a reader.
-    pub fn new(inner: R, progress: &'a Progress<E>) -> Counted<'a, R, E>
+    pub fn new(inner: R, progress: &'a Progress) -> Counted<'a, R>
         ensures { result ≡ inner }
     {
         Counted { inner, progress }
     }
 }
 
-impl<'a, R: Read, E: Eprint> Read for Counted<'a, R, E> {
+impl<'a, R: Read> Read for Counted<'a, R> {
     ghost remaining = { λ inner. R.remaining inner };
 
     fn read(&mut self, buf: &mut [u8]) -> io::Result<usize> {

@@ -1,11 +1,11 @@
-//! What the route server does beside the run itself: it keeps dumps in a folder, shows progress, and ends with a
-//! status. `rs_options` reads its command line.
+//! What the route server does beside the run itself: it opens files, keeps dumps in a folder, shows progress, and ends
+//! with a status. `rs_options` reads its command line.
 //!
 //! Reading order: `start` (what the program does before the run, and how it ends). `ended` (the ways to fail, and their
 //! statuses), `texts` (their lines), `paths` (the path of a dump). `amount` (how much was read, and the line that says
 //! it), `files` (how much there is), `progress` (that line on standard error). `counted` (a reader whose octets are
-//! counted), `watched` (a recording whose octets are), `cleared` (a writer that takes the line away first).
-//! `folder_outlet` (dumps), `overwritten` and `tried` (what is seen beforehand).
+//! counted), `cleared` (a writer that takes the line away first). `folder_outlet` (dumps), `overwritten` and `tried`
+//! (what is seen beforehand).
 //!
 //! A call that allocates fails if memory is refused.
 #![tactic(auto)]
@@ -22,7 +22,6 @@ mod progress;
 mod start;
 mod texts;
 mod tried;
-mod watched;
 
 pub use amount::Amount;
 pub use cleared::Cleared;
@@ -33,4 +32,3 @@ pub use progress::Progress;
 pub use rs_options::{read_command_line, read_words};
 pub use start::{command_line, end, ended_by, progress_on, refuse_unwritable};
 pub use texts::{PROGRAM, line};
-pub use watched::Watched;

@@ -4,15 +4,15 @@
 //! lower one may be shown until the next.
 
 use crate::amount::Amount;
-use std::io::Eprint;
+use std::io::Stderr;
 use std::sync::atomic::{AtomicBool, AtomicU64, Ordering};
 
 /// How much of all files was read, shown on standard error in one line, whose place each later one
 /// takes.
 #[derive(Drop)]
-pub struct Progress<E> {
+pub struct Progress {
     // None if nothing is shown.
-    to: Option<E>,
+    to: Option<Stderr>,
     total: Option<u64>,
     read: AtomicU64,
     // Whether the line is there.
@@ -22,10 +22,10 @@ pub struct Progress<E> {
 // Spaces, more than a line has characters.
 const WIDTH: usize = 60;
 
-impl<E: Eprint> Progress<E> {
+impl Progress {
     /// Begins with no octet read. All files have `total` octets, if that is known. It shows nothing
     /// yet, and never if there is nothing to show it on.
-    pub fn new(to: Option<E>, total: Option<u64>) -> Progress<E> {
+    pub fn new(to: Option<Stderr>, total: Option<u64>) -> Progress {
         Progress {
             to,
             total,

@@ -49,7 +49,7 @@ fn fault_on_one_line<R: AllocGlobal + Env>(
 }
 
 /// How much of the recordings of a setup was read, shown if there is a terminal.
-pub fn progress_on<R: Files>(rt: &R, terminal: Option<Stderr>, setup: &Setup) -> Progress<Stderr> {
+pub fn progress_on<R: Files>(rt: &R, terminal: Option<Stderr>, setup: &Setup) -> Progress {
     let total = match terminal {
         Some(_) => octets_of_setup(rt, setup),
         None => None,

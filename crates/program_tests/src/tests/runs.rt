@@ -12,7 +12,6 @@ use rs_setup::{Setup, read_setup};
 use rs_update::Errors;
 use spelled_in_hex::octets;
 use std::alloc::Global;
-use std::io::Stderr;
 use std::sync::Wait;
 use std::test::Fail;
 use std::thread::Threads;
@@ -254,7 +253,7 @@ fn a_run_is_the_same_whatever_its_rings_and_shards(rt: HostRuntime) -> Result<()
 #[test]
 fn a_report_passes_the_writers_of_the_program(rt: HostRuntime) -> Result<(), Fail> {
     let input = read_input(rt.alloc())?;
-    let progress: Progress<Stderr> = Progress::new(None, None);
+    let progress = Progress::new(None, None);
     let mut out = Vec::new(rt.alloc());
     let mut report = IoWriter::new(Cleared::new(&mut out, &progress));
     let (answer, _) = run_to(&rt, &input, &Manner::plain(), &mut report)?;
