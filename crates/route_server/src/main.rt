@@ -11,7 +11,7 @@ ghost use Rattle.rs_program.specs.Texts.{CanTell};
 
 use rs_host::{DONE, Reached, configuration};
 use rs_mrt::{FileReading, IoWriter, Source};
-use rs_notes::{Findings, outlines_for};
+use rs_notes::{Findings, Outlines, outlines_for};
 use rs_opening::{Beside, open_files};
 use rs_options::{Options, Strictness};
 use rs_program::{
@@ -38,11 +38,41 @@ fn main(rt: HostRuntime) -> ExitCode {
         Ok(setup) => setup,
         Err(unready) => return end(&rt, &Ended::from(unready), None, None),
     };
-    let terminal = terminal(rt.stderr());
-    match serve(&rt, &setup, options, line.reading, line.strict, terminal) {
+    let progress = progress_on(&rt, terminal(rt.stderr()), &setup);
+    let outlines = outlines_for(rt.alloc(), &setup, line.reading.bounds, line.strict);
+    let reached = match Reached::first_of_each(rt.alloc(), &setup) {
+        Ok(reached) => reached,
+        Err(error) => return end(&rt, &Ended::from(error), Some(&setup), Some(options)),
+    };
+    let counted = |octets| Counted::new(octets, &progress);
+    let beside = Beside {
+        outlines: outlines.slots(),
+        reached: &reached,
+    };
+    let files = match open_files(&rt, &setup, line.reading, counted, beside) {
+        Ok(files) => files,
+        Err(unready) => return end(&rt, &Ended::from(unready), Some(&setup), Some(options)),
+    };
+    let told = Told {
+        progress: &progress,
+        outlines: &outlines,
+        reached: &reached,
+    };
+    match serve(&rt, &setup, options, line.reading, line.strict, files, told) {
         Ok(status) => ExitCode::from(status),
         Err(ended) => end(&rt, &ended, Some(&setup), Some(options)),
     }
+}
+
+// What is told of recordings while they are read.
+#[derive(Clone, Copy)]
+struct Told<'a> {
+    // How much of them was read.
+    progress: &'a Progress,
+    // What they hold.
+    outlines: &'a Outlines,
+    // How far each was read.
+    reached: &'a [Reached],
 }
 
 // Standard error, if it is a terminal.
@@ -54,37 +84,32 @@ fn terminal(stderr: Stderr) -> Option<Stderr> {
     }
 }
 
-// Runs over the peers' files, and then prints notes on them. Answers the status with which the program ends. On a
-// terminal it is shown how much was read, until something else is written.
-fn serve<R: AllocGlobal + Files + Print + Eprint + Threads + Wait + Sync>(
+// Runs over the records of opened files, and then prints notes on the files. Answers the status with which the program
+// ends. On a terminal it is shown how much was read, until something else is written. If a dump can't be written, nothing
+// is read.
+fn serve<R: AllocGlobal + Files + Print + Eprint + Threads + Wait + Sync, S: Source + Send + Drop>(
     rt: &R,
     setup: &Setup,
     options: &Options,
     reading: FileReading,
     strict: Strictness,
-    terminal: Option<Stderr>,
+    sources: Vec<S>,
+    told: Told<'_>,
 ) -> Result<u8, Ended>
 where
     R::File: Send,
     R::Dir: Send,
+    requires one_for_each { length sources.items ≡ length setup.now.plan.value.peers }
     requires files { length setup.now.files.items ≡ length setup.now.plan.value.peers }
+    requires room { All (λ source. S.room source ≤ 2 ^ 50) sources.items }
     requires ring { (1 ≤ options.now.ring) × (options.now.ring ≤ 65536) }
     requires shards { (1 ≤ options.now.shards) × (options.now.shards ≤ 16) }
     ensures { IfErr result (λ ended. CanTell ended (Some setup.entry) (Some options.entry)) }
 {
-    let progress = progress_on(rt, terminal, setup);
-    let outlines = outlines_for(rt.alloc(), setup, reading.bounds, strict);
-    let reached = Reached::first_of_each(rt.alloc(), setup)?;
-    let counted = |octets| Counted::new(octets, &progress);
-    let beside = Beside {
-        outlines: outlines.slots(),
-        reached: &reached,
-    };
-    let files = open_files(rt, setup, reading, counted, beside)?;
     refuse_unwritable(rt, setup, options)?;
     let mut found = None;
-    let ran = run_over(rt, setup, options, files, &reached, &progress, |served| {
-        let findings = Findings::of(rt, setup, reading, strict, &outlines, served);
+    let ran = run_over(rt, setup, options, sources, told, |served| {
+        let findings = Findings::of(rt, setup, reading, strict, told.outlines, served);
         let is_wanted = findings.is_clean() || strict != Strictness::BeforeWriting;
         found = Some(findings);
         is_wanted
@@ -107,8 +132,7 @@ fn run_over<
     setup: &Setup,
     options: &Options,
     sources: Vec<S>,
-    reached: &[Reached],
-    progress: &Progress,
+    told: Told<'_>,
     is_wanted: D,
 ) -> Result<Ran, Ended>
 where
@@ -124,7 +148,7 @@ where
 {
     let alloc = rt.alloc();
     let mut outlet = FolderOutlet::new(rt, alloc, &options.out);
-    let mut report = IoWriter::new(Cleared::new(io::writer(rt), progress));
+    let mut report = IoWriter::new(Cleared::new(io::writer(rt), told.progress));
     let ran = run_if(
         rt,
         alloc,
@@ -135,9 +159,9 @@ where
         &mut outlet,
         &mut report,
     );
-    progress.clear();
+    told.progress.clear();
     match ran {
         Ok(ran) => Ok(ran),
-        Err(fault) => Err(ended_by(alloc, setup, reached, fault)),
+        Err(fault) => Err(ended_by(alloc, setup, told.reached, fault)),
     }
 }
