@@ -53,7 +53,7 @@ fn main(rt: HostRuntime) -> ExitCode {
         Ok(files) => files,
         Err(unready) => return end(&rt, &Ended::from(unready), Some(&setup), Some(options)),
     };
-    let told = Told {
+    let told = Tells {
         progress: &progress,
         outlines: &outlines,
         reached: &reached,
@@ -64,9 +64,9 @@ fn main(rt: HostRuntime) -> ExitCode {
     }
 }
 
-// What is told of recordings while they are read.
+// What tells of recordings while they are read.
 #[derive(Clone, Copy)]
-struct Told<'a> {
+struct Tells<'a> {
     // How much of them was read.
     progress: &'a Progress,
     // What they hold.
@@ -94,7 +94,7 @@ fn serve<R: AllocGlobal + Files + Print + Eprint + Threads + Wait + Sync, S: Sou
     reading: FileReading,
     strict: Strictness,
     sources: Vec<S>,
-    told: Told<'_>,
+    told: Tells<'_>,
 ) -> Result<u8, Ended>
 where
     R::File: Send,
@@ -132,7 +132,7 @@ fn run_over<
     setup: &Setup,
     options: &Options,
     sources: Vec<S>,
-    told: Told<'_>,
+    told: Tells<'_>,
     is_wanted: D,
 ) -> Result<Ran, Ended>
 where
