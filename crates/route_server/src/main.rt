@@ -53,20 +53,28 @@ fn main(rt: HostRuntime) -> ExitCode {
         Ok(files) => files,
         Err(unready) => return end(&rt, &Ended::from(unready), Some(&setup), Some(options)),
     };
-    let told = Tells {
+    let so_far = ReadSoFar {
         progress: &progress,
         outlines: &outlines,
         reached: &reached,
     };
-    match serve(&rt, &setup, options, line.reading, line.strict, files, told) {
+    match serve(
+        &rt,
+        &setup,
+        options,
+        line.reading,
+        line.strict,
+        files,
+        so_far,
+    ) {
         Ok(status) => ExitCode::from(status),
         Err(ended) => end(&rt, &ended, Some(&setup), Some(options)),
     }
 }
 
-// What tells of recordings while they are read.
+// What is known of the recordings, as far as they were read.
 #[derive(Clone, Copy)]
-struct Tells<'a> {
+struct ReadSoFar<'a> {
     // How much of them was read.
     progress: &'a Progress,
     // What they hold.
@@ -94,7 +102,7 @@ fn serve<R: AllocGlobal + Files + Print + Eprint + Threads + Wait + Sync, S: Sou
     reading: FileReading,
     strict: Strictness,
     sources: Vec<S>,
-    told: Tells<'_>,
+    so_far: ReadSoFar<'_>,
 ) -> Result<u8, Ended>
 where
     R::File: Send,
@@ -108,8 +116,8 @@ where
 {
     refuse_unwritable(rt, setup, options)?;
     let mut found = None;
-    let ran = run_over(rt, setup, options, sources, told, |served| {
-        let findings = Findings::of(rt, setup, reading, strict, told.outlines, served);
+    let ran = run_over(rt, setup, options, sources, so_far, |served| {
+        let findings = Findings::of(rt, setup, reading, strict, so_far.outlines, served);
         let is_wanted = findings.is_clean() || strict != Strictness::BeforeWriting;
         found = Some(findings);
         is_wanted
@@ -132,7 +140,7 @@ fn run_over<
     setup: &Setup,
     options: &Options,
     sources: Vec<S>,
-    told: Tells<'_>,
+    so_far: ReadSoFar<'_>,
     is_wanted: D,
 ) -> Result<Ran, Ended>
 where
@@ -148,7 +156,7 @@ where
 {
     let alloc = rt.alloc();
     let mut outlet = FolderOutlet::new(rt, alloc, &options.out);
-    let mut report = IoWriter::new(Cleared::new(io::writer(rt), told.progress));
+    let mut report = IoWriter::new(Cleared::new(io::writer(rt), so_far.progress));
     let ran = run_if(
         rt,
         alloc,
@@ -159,9 +167,9 @@ where
         &mut outlet,
         &mut report,
     );
-    told.progress.clear();
+    so_far.progress.clear();
     match ran {
         Ok(ran) => Ok(ran),
-        Err(fault) => Err(ended_by(alloc, setup, told.reached, fault)),
+        Err(fault) => Err(ended_by(alloc, setup, so_far.reached, fault)),
     }
 }

@@ -1,5 +1,5 @@
-//! What the route server does beside the run itself: it opens files, keeps dumps in a folder, shows progress, and ends
-//! with a status. `rs_options` reads its command line.
+//! What the route server does beside the run itself: it keeps dumps in a folder, shows progress, and ends with a status.
+//! `rs_options` reads its command line.
 //!
 //! Reading order: `start` (what the program does before the run, and how it ends). `ended` (the ways to fail, and their
 //! statuses), `texts` (their lines), `paths` (the path of a dump). `amount` (how much was read, and the line that says
