@@ -83,6 +83,8 @@ class Bench:
 
 # What a strict run may tell beside what is judged here.
 DOUBTS = r"(\S+ is empty|their files are empty|a loss at .*|losses are recorded .*|.* not read.*|large communities .*)"
+# The same of files: a changed octet of a Timestamp gives such notes.
+FILE_DOUBTS = r"route_server: note: (\S+.*: times go back|\S+.*: no record for |subnet )"
 # And what is no reason for its status.
 NO_REASON = r"note: peers? [\w, ]+: (large communities 64500:\*:\* have no effect |its session is down since |its session has not begun;|their sessions are down;)"
 
@@ -104,7 +106,7 @@ def wrong_notes(server, peers, report, files, told, strict, errors):
     for line in lines:
         note = re.match(r"route_server: note: peers? ([\w, ]+): (.*)", line)
         whose = set(re.split(", | and ", note[1])) if note else set()
-        if line in must or strict and note and re.fullmatch(DOUBTS, note[2]) or strict and re.match(r"route_server: note: (\S+.*: times go back|subnet )", line):
+        if line in must or strict and note and re.fullmatch(DOUBTS, note[2]) or strict and re.match(FILE_DOUBTS, line):
             continue
         if note and whose <= silent:
             silent -= whose
